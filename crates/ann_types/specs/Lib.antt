@@ -1,2 +1,11 @@
 pub mod Limits
 pub mod Distance
+pub mod Order
+pub mod Walk
+pub mod Kept
+pub mod Graph
+pub mod Put
+pub mod Codes
+pub mod Rounds
+pub mod Index
+pub mod Merge
