@@ -1,7 +1,10 @@
 -- A graph: an entry, and a finite map from Pid to a tag, a vector and a set of neighbours.
-use Rattle.std.specs.Prelude.{ℕ, Bool, List, [], ◌∷◌, ◌==◌, Option, Some, None, map, length, if◌then◌else◌}
+use Rattle.std.specs.Prelude.{◌≡◌, ◌≢◌, ℕ, ◌≤◌, Bool, IsTrue, List, [], ◌∷◌, ◌==◌, Option, Some, None, MatchOption, All, map, length, if◌then◌else◌}
+use Rattle.std.specs.List.Sorted.{IsStrictlyIncreasing}
 use Rattle.ann_types.specs.Distance.{distance}
+use Rattle.ann_types.specs.Order.{has}
 use Rattle.ann_types.specs.Walk.{Ground, near, visited_of}
+use Rattle.ann_types.specs.declared.params.Params.{Params}
 
 -- a point: its number, the client's name for it, its vector and its set of neighbours (its out-neighbours, Nout)
 pub record Point : Type 0 where
@@ -40,6 +43,19 @@ links_of (x ∷ xs) p = if x.pid == p then x.links else links_of xs p
 abbrev pub tag_of : List Point → ℕ → ℕ
 tag_of [] p = 0
 tag_of (x ∷ xs) p = if x.pid == p then x.tag else tag_of xs p
+
+-- what a list of points and an entry must be to be a graph: Pids rise; each point's neighbours are a set of other points; the entry is a point, and is none exactly where there is no point
+pub record IsGraph (graph : Graph) : Type 0 where
+  pub pids : IsStrictlyIncreasing (pids_of graph.points)
+  pub sets : All (λ x. IsStrictlyIncreasing x.links) graph.points
+  pub others : All (λ x. All (λ p. IsTrue (has (pids_of graph.points) p) × (p ≢ x.pid)) x.links) graph.points
+  pub entry : MatchOption graph.entry (graph.points ≡ []) (λ e. IsTrue (has (pids_of graph.points) e))
+
+-- a graph of an index: vectors of d components, and at most R neighbours of each point
+pub record IsGraphOf (params : Params) (graph : Graph) : Type 0 where
+  pub sound : IsGraph graph
+  pub vectors : All (λ x. length x.vector ≡ params.d) graph.points
+  pub degrees : All (λ x. length x.links ≤ params.r) graph.points
 
 -- how far a point is from a query
 abbrev pub far_from : List Point → List ℕ → ℕ → ℕ

@@ -9,3 +9,8 @@ pub mod Codes
 pub mod Rounds
 pub mod Index
 pub mod Merge
+pub mod Lists
+pub mod Fold
+pub mod Legal
+pub mod Answer
+pub mod Judge
