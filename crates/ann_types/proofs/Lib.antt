@@ -1,0 +1,4 @@
+pub mod WorkedIndexes
+pub mod WorkedGraphs
+pub mod WorkedMerges
+pub mod WorkedLists
