@@ -2,3 +2,4 @@ pub mod WorkedIndexes
 pub mod WorkedGraphs
 pub mod WorkedMerges
 pub mod WorkedLists
+pub mod Ordered
