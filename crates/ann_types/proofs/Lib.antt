@@ -3,3 +3,4 @@ pub mod WorkedGraphs
 pub mod WorkedMerges
 pub mod WorkedLists
 pub mod Ordered
+pub mod Walks

@@ -154,6 +154,10 @@ has_all_placed far z (x ∷ xs) s =
     ∙ or_swap (has xs z) (eqb z x) (has s z)
     ∙ or_assoc (eqb z x) (has xs z) (has s z)
 
+pub has_append : (xs ys : List ℕ) (z : ℕ) → has (xs ++ ys) z ≡ (has xs z || has ys z)
+has_append [] ys z = refl
+has_append (x ∷ xs) ys z = ap (λ t. eqb z x || t) (has_append xs ys z) ∙ or_assoc (eqb z x) (has xs z) (has ys z)
+
 -- Putting points in order changes none of them.
 pub has_in_order : (far : ℕ → ℕ) (z : ℕ) (xs : List ℕ) → has (in_order far xs) z ≡ has xs z
 has_in_order far z xs = has_all_placed far z xs [] ∙ or_false (has xs z)
