@@ -4,3 +4,5 @@ pub mod WorkedMerges
 pub mod WorkedLists
 pub mod Ordered
 pub mod Walks
+pub mod Sets
+pub mod Keeps
