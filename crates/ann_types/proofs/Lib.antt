@@ -6,3 +6,4 @@ pub mod Ordered
 pub mod Walks
 pub mod Sets
 pub mod Keeps
+pub mod Folds
