@@ -7,3 +7,4 @@ pub mod Walks
 pub mod Sets
 pub mod Keeps
 pub mod Folds
+pub mod Named
