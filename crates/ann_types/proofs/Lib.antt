@@ -8,3 +8,4 @@ pub mod Sets
 pub mod Keeps
 pub mod Folds
 pub mod Named
+pub mod Alive
