@@ -9,3 +9,4 @@ pub mod Keeps
 pub mod Folds
 pub mod Named
 pub mod Alive
+pub mod Graphs

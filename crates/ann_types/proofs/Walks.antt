@@ -53,7 +53,7 @@ near_stays g width p v w there h = top_stays g.far width p (met g v) (flat_map g
 
 -- ---- The members of a walk
 
-none_distinct : IsDistinct eqb []
+pub none_distinct : IsDistinct eqb []
 unfolding IsDistinct
 none_distinct = tt
 
