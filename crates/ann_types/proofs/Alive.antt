@@ -1,17 +1,17 @@
 -- The law of live tags: the points that aren't deleted are exactly those of the live tags, and each stands in one graph.
-use Rattle.std.proofs.Common.{◌≡◌, ℕ, zero, suc, ◌+◌, ◌≤◌, ◌<◌, Bool, true, false, cond, eqb, not, List, [], ◌∷◌, ◌++◌, ◌||◌, ◌&&◌, refl, sym, ap, ◌∙◌, subst, arith, map, filter, flat_map, take, drop, length, append_assoc, append-nil, eqb-true, eq-eqb, All}
+use Rattle.std.proofs.Common.{◌≡◌, ℕ, ◌+◌, ◌≤◌, ◌<◌, Bool, true, false, cond, eqb, not, List, [], ◌∷◌, ◌++◌, ◌||◌, ◌&&◌, refl, sym, ap, ◌∙◌, subst, arith, map, filter, flat_map, take, drop, length, append_assoc, append-nil, eqb-true, eq-eqb}
 use Rattle.std.specs.Prelude.{Option, Some, None}
-use Rattle.std.specs.List.{AllByRecursion, list_any}
+use Rattle.std.specs.List.{AllByRecursion}
 use Rattle.std.specs.List.Sorted.{IsStrictlyIncreasing}
-use Rattle.std.proofs.lemmas.Bool.{false≢true, and_parts, not-true, ne_eqb, or_left, or_right, or_cases, or_parts}
+use Rattle.std.proofs.lemmas.Bool.{and_parts, not-true, ne_eqb, or_left, or_parts}
 use Rattle.std.proofs.lemmas.List.{map-append, take-append-drop, drop-append-le, drop_all, nil_from_length, length_push}
-use Rattle.std.proofs.lemmas.List.Elements.{filter-append, recursion_from_All, All-from_recursion}
+use Rattle.std.proofs.lemmas.List.Elements.{filter-append, recursion_from_All}
 use Rattle.ann_types.specs.Order.{has, ascending}
-use Rattle.ann_types.specs.Graph.{Point, Graph, empty_graph, is_empty, pids_of, IsGraph, IsGraphOf}
+use Rattle.ann_types.specs.Graph.{Point, Graph, is_empty, pids_of}
 use Rattle.ann_types.specs.Put.{put}
 use Rattle.ann_types.specs.Index.{Index}
 use Rattle.ann_types.specs.Merge.{without, survivors}
-use Rattle.ann_types.specs.Lists.{ListBase, BasedList, bare, length_of, with_entry, with_entries, IsBaseOf, makes_point, next_pid, Names, names_of, is_live, pids_at, unmapped, mapped, live_after, live_from, live_of}
+use Rattle.ann_types.specs.Lists.{ListBase, BasedList, bare, length_of, with_entry, with_entries, IsBaseOf, makes_point, next_pid, Names, names_of, is_live, pids_at, unmapped, mapped, live_after, live_of}
 use Rattle.ann_types.specs.Fold.{Begun, State, all_points, alive_of, start, frozen, grown, inserted, deleted, opened, begun_at, merge_of, switched, step, fold_from, fold_of}
 use Rattle.ann_types.specs.Legal.{fits, may_follow, legal_from, is_legal}
 use Rattle.ann_types.specs.declared.params.Params.{Params}
@@ -19,7 +19,7 @@ use Rattle.ann_types.specs.declared.entry.Entry.{Entry}
 use Rattle.ann_types.specs.declared.entry.Entry.TheVariants.{Insert, Delete, Begin, End, Replace}
 use Rattle.ann_types.proofs.Ordered.{has_append}
 use Rattle.ann_types.proofs.Walks.{Inside}
-use Rattle.ann_types.proofs.Sets.{Rises, increasing_from_rises, rises_from_increasing, has_ascending, has_above, has_below, below_from_has, none_from_below, all_append, all_left, all_right, all_weaker, all_filter, all_map, all_of_map, rises_push}
+use Rattle.ann_types.proofs.Sets.{Rises, increasing_from_rises, rises_from_increasing, has_ascending, has_below, below_from_has, none_from_below, all_append, all_weaker, all_filter, all_map, all_of_map, rises_push}
 use Rattle.ann_types.proofs.Named.{name, pids_are, names_append, names_put, names_merge_of}
 use Rattle.ann_types.proofs.Folds.{entries_none, entries_then, next_pid_push, live_push}
 
@@ -105,12 +105,12 @@ untagged tag [] r = refl
 untagged tag (e ∷ es) (a, r) =
     elim (eqb e.0 tag) as (λ t. filter (λ x. not (has (pids (cond t (e ∷ filter (λ y. eqb y.0 tag) es) (filter (λ y. eqb y.0 tag) es))) x.1)) (e ∷ es) ≡ cond (not t) (e ∷ unmapped es tag) (unmapped es tag)) [
       | true ↦
-        ap (λ t. cond (not (t || has (pids_at es tag) e.1)) (e ∷ filter (λ x. not (has (e.1 ∷ pids_at es tag) x.1)) es) (filter (λ x. not (has (e.1 ∷ pids_at es tag) x.1)) es)) (eq-eqb e.1 e.1 refl)
-        ∙ filter_along (λ x. not (has (e.1 ∷ pids_at es tag) x.1)) (λ x. not (has (pids_at es tag) x.1)) es (all_weaker (λ x. e.1 < x.1) (λ x. not (has (e.1 ∷ pids_at es tag) x.1) ≡ not (has (pids_at es tag) x.1)) es (λ x h. ap (λ t. not (t || has (pids_at es tag) x.1)) (ne_eqb x.1 e.1 (λ k. absurd (omega arith)))) (all_of_map (λ y. e.1 < y) (λ x. x.1) es a))
-        ∙ untagged tag es r
+          ap (λ t. cond (not (t || has (pids_at es tag) e.1)) (e ∷ filter (λ x. not (has (e.1 ∷ pids_at es tag) x.1)) es) (filter (λ x. not (has (e.1 ∷ pids_at es tag) x.1)) es)) (eq-eqb e.1 e.1 refl)
+          ∙ filter_along (λ x. not (has (e.1 ∷ pids_at es tag) x.1)) (λ x. not (has (pids_at es tag) x.1)) es (all_weaker (λ x. e.1 < x.1) (λ x. not (has (e.1 ∷ pids_at es tag) x.1) ≡ not (has (pids_at es tag) x.1)) es (λ x h. ap (λ t. not (t || has (pids_at es tag) x.1)) (ne_eqb x.1 e.1 (λ k. absurd (omega arith)))) (all_of_map (λ y. e.1 < y) (λ x. x.1) es a))
+          ∙ untagged tag es r
       | false ↦
-        ap (λ t. cond (not t) (e ∷ filter (λ x. not (has (pids_at es tag) x.1)) es) (filter (λ x. not (has (pids_at es tag) x.1)) es)) (none_above e.1 (pids_at es tag) (pids_at_all (λ y. e.1 < y) es tag a))
-        ∙ ap (λ t. e ∷ t) (untagged tag es r)
+          ap (λ t. cond (not t) (e ∷ filter (λ x. not (has (pids_at es tag) x.1)) es) (filter (λ x. not (has (pids_at es tag) x.1)) es)) (none_above e.1 (pids_at es tag) (pids_at_all (λ y. e.1 < y) es tag a))
+          ∙ ap (λ t. e ∷ t) (untagged tag es r)
     ]
   where
     none_above : (n : ℕ) (xs : List ℕ) → AllByRecursion (λ y. n < y) xs → has xs n ≡ false
@@ -177,22 +177,22 @@ behind_frozen s g b l = ap (λ t. frozen_points t ++ []) (drop-append-le b.froze
 freeze_open : (next : ℕ) (s : State) (g : Graph) (o : Option Begun) → OpenHolds next (record s { rw = g }) o → OpenHolds next (frozen s g) o
 freeze_open next s g None w = tt
 freeze_open next s g (Some b) w = record {
-    frozen = (let size = length_push s.ros g in let more = w.frozen in omega arith);
-    gone = w.gone;
-    bound = w.bound;
-    older = w.older;
-    newer = subst (λ (t : List Point). AllByRecursion (λ e. w.bound ≤ e.1) (names_of t)) (sym (behind_frozen s g b w.frozen)) w.newer;
-    near = w.near;
-  }
+  frozen = (let size = length_push s.ros g in let more = w.frozen in omega arith);
+  gone = w.gone;
+  bound = w.bound;
+  older = w.older;
+  newer = subst (λ (t : List Point). AllByRecursion (λ e. w.bound ≤ e.1) (names_of t)) (sym (behind_frozen s g b w.frozen)) w.newer;
+  near = w.near;
+}
 
 freeze_good : (next : ℕ) (live : Names) (s : State) (g : Graph) → Good next live (record s { rw = g }) → Good next live (frozen s g)
 freeze_good next live s g w = record {
-    rises = subst (λ (t : List Point). NamesRise (names_of t)) (sym (all_points_frozen s g)) w.rises;
-    below = subst (λ (t : List Point). AllByRecursion (λ p. p < next) (pids (names_of t))) (sym (all_points_frozen s g)) w.below;
-    dead = w.dead;
-    merge = freeze_open next s g s.begun w.merge;
-    alive = w.alive ∙ ap (λ (t : List Point). filter (λ e. not (has s.dead e.1)) (names_of t)) (sym (all_points_frozen s g));
-  }
+  rises = subst (λ (t : List Point). NamesRise (names_of t)) (sym (all_points_frozen s g)) w.rises;
+  below = subst (λ (t : List Point). AllByRecursion (λ p. p < next) (pids (names_of t))) (sym (all_points_frozen s g)) w.below;
+  dead = w.dead;
+  merge = freeze_open next s g s.begun w.merge;
+  alive = w.alive ∙ ap (λ (t : List Point). filter (λ e. not (has s.dead e.1)) (names_of t)) (sym (all_points_frozen s g));
+}
 
 grow_good : (params : Params) (next : ℕ) (live : Names) (s : State) (g : Graph) → Good next live (record s { rw = g }) → Good next live (grown params s g)
 grow_good params next live s g w =
@@ -219,13 +219,13 @@ names_put_behind params s b n tag vector =
 put_open : (params : Params) (next : ℕ) (s : State) (tag : ℕ) (vector : List ℕ) (o : Option Begun) → OpenHolds next s o → OpenHolds (next + 1) (record s { rw = put params s.rw next tag vector }) o
 put_open params next s tag vector None w = tt
 put_open params next s tag vector (Some b) w = record {
-    frozen = w.frozen;
-    gone = w.gone;
-    bound = w.bound;
-    older = w.older;
-    newer = subst (AllByRecursion (λ e. w.bound ≤ e.1)) (sym (names_put_behind params s b next tag vector)) (all_append (λ e. w.bound ≤ e.1) (names_of (behind s b)) ((tag, next) ∷ []) w.newer (w.near, tt));
-    near = (let l = w.near in omega arith);
-  }
+  frozen = w.frozen;
+  gone = w.gone;
+  bound = w.bound;
+  older = w.older;
+  newer = subst (AllByRecursion (λ e. w.bound ≤ e.1)) (sym (names_put_behind params s b next tag vector)) (all_append (λ e. w.bound ≤ e.1) (names_of (behind s b)) ((tag, next) ∷ []) w.newer (w.near, tt));
+  near = (let l = w.near in omega arith);
+}
 
 pids_push : (es : Names) (e : ℕ × ℕ) → pids (es ++ e ∷ []) ≡ pids es ++ e.1 ∷ []
 pids_push es e = map-append (λ x. x.1) es (e ∷ [])
@@ -240,11 +240,11 @@ put_good params next live s tag vector w =
       dead = all_weaker (λ p. p < next) (λ p. p < next + 1) s.dead (λ p h. omega arith) w.dead;
       merge = put_open params next s tag vector s.begun w.merge;
       alive =
-      ap (λ t. t ++ (tag, next) ∷ []) w.alive
-      ∙ sym (
-      ap (filter (λ e. not (has s.dead e.1))) names
-      ∙ filter-append (λ e. not (has s.dead e.1)) all ((tag, next) ∷ [])
-      ∙ ap (λ t. alive_of s ++ cond (not t) ((tag, next) ∷ []) []) (none_from_below next next s.dead w.dead (omega arith)));
+          ap (λ t. t ++ (tag, next) ∷ []) w.alive
+          ∙ sym (
+          ap (filter (λ e. not (has s.dead e.1))) names
+          ∙ filter-append (λ e. not (has s.dead e.1)) all ((tag, next) ∷ [])
+          ∙ ap (λ t. alive_of s ++ cond (not t) ((tag, next) ∷ []) []) (none_from_below next next s.dead w.dead (omega arith)));
     }
 
 -- ---- a tag is deleted
@@ -252,13 +252,13 @@ put_good params next live s tag vector w =
 delete_open : (next : ℕ) (s : State) (ps : List ℕ) (o : Option Begun) → OpenHolds next s o → OpenHolds next (deleted s ps) o
 delete_open next s ps None w = tt
 delete_open next s ps (Some b) w = record {
-    frozen = w.frozen;
-    gone = λ p h. has_ascending p (s.dead ++ ps) ∙ has_append s.dead ps p ∙ or_left (has s.dead p) (has ps p) (w.gone p h);
-    bound = w.bound;
-    older = w.older;
-    newer = w.newer;
-    near = w.near;
-  }
+  frozen = w.frozen;
+  gone = λ p h. has_ascending p (s.dead ++ ps) ∙ has_append s.dead ps p ∙ or_left (has s.dead p) (has ps p) (w.gone p h);
+  bound = w.bound;
+  older = w.older;
+  newer = w.newer;
+  near = w.near;
+}
 
 not_or : (a b : Bool) → not (a || b) ≡ (not a && not b)
 not_or true b = refl
@@ -276,29 +276,29 @@ delete_good next live s tag w =
       dead = below_from_has next (ascending (s.dead ++ ps)) (λ p h. has_below next p (s.dead ++ ps) (all_append (λ x. x < next) s.dead ps w.dead (pids_at_all (λ x. x < next) live tag below)) (sym (has_ascending p (s.dead ++ ps)) ∙ h));
       merge = delete_open next s ps s.begun w.merge;
       alive =
-      sym (untagged tag live rises)
-      ∙ ap (filter (λ e. not (has ps e.1))) w.alive
-      ∙ filter_twice (λ e. not (has s.dead e.1)) (λ e. not (has ps e.1)) all
-      ∙ filter_same (λ e. not (has s.dead e.1) && not (has ps e.1)) (λ e. not (has (ascending (s.dead ++ ps)) e.1)) all (λ e. sym (ap not (has_ascending e.1 (s.dead ++ ps) ∙ has_append s.dead ps e.1) ∙ not_or (has s.dead e.1) (has ps e.1)));
+          sym (untagged tag live rises)
+          ∙ ap (filter (λ e. not (has ps e.1))) w.alive
+          ∙ filter_twice (λ e. not (has s.dead e.1)) (λ e. not (has ps e.1)) all
+          ∙ filter_same (λ e. not (has s.dead e.1) && not (has ps e.1)) (λ e. not (has (ascending (s.dead ++ ps)) e.1)) all (λ e. sym (ap not (has_ascending e.1 (s.dead ++ ps) ∙ has_append s.dead ps e.1) ∙ not_or (has s.dead e.1) (has ps e.1)));
     }
 
 -- ---- a merge begins
 
 open_good : (next at : ℕ) (live : Names) (s : State) → s.rw.points ≡ [] → Good next live s → Good next live (opened s at)
 open_good next at live s none w = record {
-    rises = w.rises;
-    below = w.below;
-    dead = w.dead;
-    merge = record {
-      frozen = omega arith;
-      gone = λ p h. h;
-      bound = next;
-      older = w.dead;
-      newer = subst (λ (t : List Point). AllByRecursion (λ e. next ≤ e.1) (names_of t)) (sym (ap (λ t. frozen_points t ++ s.rw.points) (drop_all (length s.ros) s.ros (omega arith)) ∙ none)) tt;
-      near = omega arith;
-    };
-    alive = w.alive;
-  }
+  rises = w.rises;
+  below = w.below;
+  dead = w.dead;
+  merge = record {
+    frozen = omega arith;
+    gone = λ p h. h;
+    bound = next;
+    older = w.dead;
+    newer = subst (λ (t : List Point). AllByRecursion (λ e. next ≤ e.1) (names_of t)) (sym (ap (λ t. frozen_points t ++ s.rw.points) (drop_all (length s.ros) s.ros (omega arith)) ∙ none)) tt;
+    near = omega arith;
+  };
+  alive = w.alive;
+}
 
 begin_good : (next at : ℕ) (live : Names) (s : State) → Good next live s → Good next live (begun_at s at)
 begin_good next at live s w =
@@ -309,7 +309,7 @@ begin_good next at live s w =
 
 -- ---- a merge ends
 
-split_points : (s : State) (b : Begun) → all_points s ≡ (s.lti.points ++ frozen_points (take b.frozen s.ros)) ++ behind s b
+pub split_points : (s : State) (b : Begun) → all_points s ≡ (s.lti.points ++ frozen_points (take b.frozen s.ros)) ++ behind s b
 split_points s b =
     let taken : List Point = frozen_points (take b.frozen s.ros) in
     let rest : List Point = frozen_points (drop b.frozen s.ros) in
@@ -351,13 +351,13 @@ end_open index next live s (Some b) w good e =
       dead = all_filter (λ p. p < next) (λ p. not (has b.gone p)) s.dead good.dead;
       merge = tt;
       alive =
-      good.alive
-      ∙ sym (
-      ap (filter (λ e. not (has (without b.gone s.dead) e.1))) names
-      ∙ filter_twice (λ e. not (has b.gone e.1)) (λ e. not (has (without b.gone s.dead) e.1)) all
-      ∙ filter_same (λ e. not (has b.gone e.1) && not (has (without b.gone s.dead) e.1)) (λ e. not (has s.dead e.1)) all (λ e.
-      ap (λ t. not (has b.gone e.1) && not t) (has_filter_is (λ p. not (has b.gone p)) s.dead e.1)
-      ∙ left_dead (has b.gone e.1) (has s.dead e.1) (w.gone e.1)));
+          good.alive
+          ∙ sym (
+          ap (filter (λ e. not (has (without b.gone s.dead) e.1))) names
+          ∙ filter_twice (λ e. not (has b.gone e.1)) (λ e. not (has (without b.gone s.dead) e.1)) all
+          ∙ filter_same (λ e. not (has b.gone e.1) && not (has (without b.gone s.dead) e.1)) (λ e. not (has s.dead e.1)) all (λ e.
+          ap (λ t. not (has b.gone e.1) && not t) (has_filter_is (λ p. not (has b.gone p)) s.dead e.1)
+          ∙ left_dead (has b.gone e.1) (has s.dead e.1) (w.gone e.1)));
     }
 
 end_good : (index : Index) (next : ℕ) (live : Names) (s : State) → Good next live s → Good next live (switched s (merge_of index s s.begun) s.begun)
@@ -386,19 +386,21 @@ step_good index h s (Replace by tag vector) m w =
     grow_good index.params (next_pid h + 1) (mapped (live_of h) tag (next_pid h)) left (put index.params left.rw (next_pid h) tag vector)
     (put_good index.params (next_pid h) (unmapped (live_of h) tag) left tag vector (delete_good (next_pid h) (live_of h) s tag w))
 
-fold_good : (index : Index) (h : BasedList) (s : State) (es : List Entry) → legal_from index h s es ≡ true → Good (next_pid h) (live_of h) s → Good (next_pid (with_entries h es)) (live_of (with_entries h es)) (fold_from index h s es)
+pub good_after : (index : Index) (h : BasedList) (s : State) (e : Entry) → may_follow index.params h s e ≡ true → Good (next_pid h) (live_of h) s → Good (next_pid (with_entry h e)) (live_of (with_entry h e)) (step index h s e)
 unfolding GoodAfter
+good_after index h s e m w =
+    let one : Good (next_pid h + cond (makes_point e) 1 0) (live_after (live_of h) (next_pid h) e) (step index h s e) = step_good index h s e m w in
+    subst (λ (t : Names). Good (next_pid (with_entry h e)) t (step index h s e)) (sym (live_push h e)) (subst (λ (n : ℕ). Good n (live_after (live_of h) (next_pid h) e) (step index h s e)) (sym (next_pid_push h e)) one)
+
+fold_good : (index : Index) (h : BasedList) (s : State) (es : List Entry) → legal_from index h s es ≡ true → Good (next_pid h) (live_of h) s → Good (next_pid (with_entries h es)) (live_of (with_entries h es)) (fold_from index h s es)
 fold_good index h s [] l w = subst (λ (g : BasedList). Good (next_pid g) (live_of g) s) (sym (entries_none h)) w
 fold_good index h s (e ∷ es) l w =
     let both = and_parts (may_follow index.params h s e) (legal_from index (with_entry h e) (step index h s e) es) l in
-    let one : Good (next_pid h + cond (makes_point e) 1 0) (live_after (live_of h) (next_pid h) e) (step index h s e) = step_good index h s e both.0 w in
-    let two : Good (next_pid (with_entry h e)) (live_of (with_entry h e)) (step index h s e) =
-      subst (λ (t : Names). Good (next_pid (with_entry h e)) t (step index h s e)) (sym (live_push h e)) (subst (λ (n : ℕ). Good n (live_after (live_of h) (next_pid h) e) (step index h s e)) (sym (next_pid_push h e)) one) in
-    subst (λ (g : BasedList). Good (next_pid g) (live_of g) (fold_from index (with_entry h e) (step index h s e) es)) (entries_then h (e ∷ []) es) (fold_good index (with_entry h e) (step index h s e) es both.1 two)
+    subst (λ (g : BasedList). Good (next_pid g) (live_of g) (fold_from index (with_entry h e) (step index h s e) es)) (entries_then h (e ∷ []) es) (fold_good index (with_entry h e) (step index h s e) es both.1 (good_after index h s e both.0 w))
 
 -- ---- the base
 
-base_good : (params : Params) (base : ListBase) → IsBaseOf params base → Good (next_pid (bare base)) (live_of (bare base)) (start base.graph)
+pub base_good : (params : Params) (base : ListBase) → IsBaseOf params base → Good (next_pid (bare base)) (live_of (bare base)) (start base.graph)
 base_good params base b =
     let points : List Point = base.graph.points in
     let all : points ≡ all_points (start base.graph) = sym (append-nil (points ++ []) ∙ append-nil points) in

@@ -1,22 +1,22 @@
 -- The laws of graphs: a walk stays in its graph, and `put` leaves a graph.
-use Rattle.std.proofs.Common.{◌≡◌, ◌≢◌, ℕ, zero, suc, ◌+◌, ◌≤◌, ◌<◌, Bool, true, false, cond, eqb, not, IsTrue, List, [], ◌∷◌, ◌++◌, ◌||◌, refl, sym, ap, ◌∙◌, subst, arith, map, filter, length, append_assoc, append-nil, eqb-true, eq-eqb, All, ◌⊎◌, inl, inr, unwrap_or, MatchOption}
+use Rattle.std.proofs.Common.{◌≡◌, ◌≢◌, ℕ, ◌≤◌, ◌<◌, true, false, cond, eqb, IsTrue, List, [], ◌∷◌, ◌++◌, refl, sym, ap, ◌∙◌, subst, arith, map, length, eqb-true, eq-eqb, All, inl, inr, unwrap_or, MatchOption}
 use Rattle.std.specs.Prelude.{Option, Some, None}
-use Rattle.std.specs.List.{AllByRecursion, list_any, IsDistinct}
+use Rattle.std.specs.List.{AllByRecursion, IsDistinct}
 use Rattle.std.specs.List.Sorted.{IsStrictlyIncreasing}
-use Rattle.std.proofs.lemmas.Bool.{false≢true, ne_eqb, or_left, or_right, or_cases, both_ways}
+use Rattle.std.proofs.lemmas.Bool.{false≢true, or_left, or_right, both_ways}
 use Rattle.std.proofs.lemmas.List.{length-map, map-append}
 use Rattle.std.proofs.lemmas.List.Elements.{recursion_from_All, All-from_recursion}
 use Rattle.ann_types.specs.Order.{has, ascending}
-use Rattle.ann_types.specs.Walk.{Ground, met, near, next, visited_of}
+use Rattle.ann_types.specs.Walk.{Ground, met, next, visited_of}
 use Rattle.ann_types.specs.Kept.{Rule, rule_of, kept, within}
-use Rattle.ann_types.specs.Graph.{Point, Graph, with_vector, empty_graph, pids_of, links_of, apart_in, ground, visited_from, visited, near_from, near_to, IsGraph, IsGraphOf}
+use Rattle.ann_types.specs.Graph.{Point, Graph, empty_graph, pids_of, links_of, apart_in, ground, visited_from, visited, near_from, near_to, IsGraph, IsGraphOf}
 use Rattle.ann_types.specs.Put.{alone, linked_back, put}
 use Rattle.ann_types.specs.declared.params.Params.{Params}
 use Rattle.ann_types.proofs.Ordered.{has_append, has_here, has_later, has_cases, top_inside}
 use Rattle.ann_types.proofs.Walks.{Inside, Closed, met_inside, walk_inside, walk_distinct, walk_short, walk_whole, none_distinct}
-use Rattle.ann_types.proofs.Sets.{Rises, increasing_from_rises, rises_from_increasing, has_ascending, rises_ascending, has_below, none_from_below, all_append, all_weaker, all_map, all_of_map, rises_push, not_among}
+use Rattle.ann_types.proofs.Sets.{Rises, increasing_from_rises, rises_from_increasing, has_ascending, rises_ascending, none_from_below, all_append, all_weaker, all_map, all_of_map, rises_push, not_among}
 use Rattle.ann_types.proofs.Keeps.{kept_inside, kept_few, kept_rises, within_inside, within_few, within_rises}
-use Rattle.ann_types.proofs.Named.{name, pids_are, pids_append, names_put}
+use Rattle.ann_types.proofs.Named.{name, pids_are, names_put}
 
 -- ---- members
 
@@ -71,27 +71,27 @@ match_entry points (Some e) w = w
 
 pub graph_from_linked : (g : Graph) → AreLinked g.points → IsEntry g.points g.entry → IsGraph g
 graph_from_linked g w e = record {
-    pids = increasing_from_rises (pids_of g.points) w.rises;
-    sets = All-from_recursion (λ (x : Point). IsStrictlyIncreasing x.links) g.points (all_weaker (λ (x : Point). IsLinked (pids_of g.points) x.pid x.links) (λ (x : Point). IsStrictlyIncreasing x.links) g.points (λ x k. increasing_from_rises x.links k.rises) w.linked);
-    others = All-from_recursion (λ (x : Point). All (λ p. IsTrue (has (pids_of g.points) p) × (p ≢ x.pid)) x.links) g.points (all_weaker (λ (x : Point). IsLinked (pids_of g.points) x.pid x.links) (λ (x : Point). All (λ p. IsTrue (has (pids_of g.points) p) × (p ≢ x.pid)) x.links) g.points (λ x k. All-from_recursion (λ p. IsTrue (has (pids_of g.points) p) × (p ≢ x.pid)) x.links (all_from_has (λ p. IsTrue (has (pids_of g.points) p) × (p ≢ x.pid)) x.links (λ p h. (k.inside p h, λ same. both_ways _ k.other (subst (λ (t : ℕ). has x.links t ≡ true) same h))))) w.linked);
-    entry = entry_match g.points g.entry e;
-  }
+  pids = increasing_from_rises (pids_of g.points) w.rises;
+  sets = All-from_recursion (λ (x : Point). IsStrictlyIncreasing x.links) g.points (all_weaker (λ (x : Point). IsLinked (pids_of g.points) x.pid x.links) (λ (x : Point). IsStrictlyIncreasing x.links) g.points (λ x k. increasing_from_rises x.links k.rises) w.linked);
+  others = All-from_recursion (λ (x : Point). All (λ p. IsTrue (has (pids_of g.points) p) × (p ≢ x.pid)) x.links) g.points (all_weaker (λ (x : Point). IsLinked (pids_of g.points) x.pid x.links) (λ (x : Point). All (λ p. IsTrue (has (pids_of g.points) p) × (p ≢ x.pid)) x.links) g.points (λ x k. All-from_recursion (λ p. IsTrue (has (pids_of g.points) p) × (p ≢ x.pid)) x.links (all_from_has (λ p. IsTrue (has (pids_of g.points) p) × (p ≢ x.pid)) x.links (λ p h. (k.inside p h, λ same. both_ways _ k.other (subst (λ (t : ℕ). has x.links t ≡ true) same h))))) w.linked);
+  entry = entry_match g.points g.entry e;
+}
 
 pub linked_from_graph : (g : Graph) → IsGraph g → AreLinked g.points
 linked_from_graph g w = record {
-    rises = rises_from_increasing (pids_of g.points) w.pids;
-    linked =
-    all_two (λ (x : Point). IsStrictlyIncreasing x.links) (λ (x : Point). All (λ p. IsTrue (has (pids_of g.points) p) × (p ≢ x.pid)) x.links) (λ (x : Point). IsLinked (pids_of g.points) x.pid x.links) g.points
-    (λ x s o.
-    let each : AllByRecursion (λ p. IsTrue (has (pids_of g.points) p) × (p ≢ x.pid)) x.links = recursion_from_All (λ p. IsTrue (has (pids_of g.points) p) × (p ≢ x.pid)) x.links o in
-    record {
-      rises = rises_from_increasing x.links s;
-      inside = λ p h. (has_all (λ q. IsTrue (has (pids_of g.points) q) × (q ≢ x.pid)) x.links p each h).0;
-      other = not_among x.links x.pid (λ h. (has_all (λ q. IsTrue (has (pids_of g.points) q) × (q ≢ x.pid)) x.links x.pid each h).1 refl);
-    })
-    (recursion_from_All (λ (x : Point). IsStrictlyIncreasing x.links) g.points w.sets)
-    (recursion_from_All (λ (x : Point). All (λ p. IsTrue (has (pids_of g.points) p) × (p ≢ x.pid)) x.links) g.points w.others);
-  }
+  rises = rises_from_increasing (pids_of g.points) w.pids;
+  linked =
+      all_two (λ (x : Point). IsStrictlyIncreasing x.links) (λ (x : Point). All (λ p. IsTrue (has (pids_of g.points) p) × (p ≢ x.pid)) x.links) (λ (x : Point). IsLinked (pids_of g.points) x.pid x.links) g.points
+      (λ x s o.
+      let each : AllByRecursion (λ p. IsTrue (has (pids_of g.points) p) × (p ≢ x.pid)) x.links = recursion_from_All (λ p. IsTrue (has (pids_of g.points) p) × (p ≢ x.pid)) x.links o in
+      record {
+        rises = rises_from_increasing x.links s;
+        inside = λ p h. (has_all (λ q. IsTrue (has (pids_of g.points) q) × (q ≢ x.pid)) x.links p each h).0;
+        other = not_among x.links x.pid (λ h. (has_all (λ q. IsTrue (has (pids_of g.points) q) × (q ≢ x.pid)) x.links x.pid each h).1 refl);
+      })
+      (recursion_from_All (λ (x : Point). IsStrictlyIncreasing x.links) g.points w.sets)
+      (recursion_from_All (λ (x : Point). All (λ p. IsTrue (has (pids_of g.points) p) × (p ≢ x.pid)) x.links) g.points w.others);
+}
 
 pub entry_from_graph : (g : Graph) → IsGraph g → IsEntry g.points g.entry
 entry_from_graph g w = match_entry g.points g.entry w.entry
@@ -148,11 +148,11 @@ ended_from points query width (Some e) w n = walk_whole (ground points query e) 
 
 pub walk_of_graph : (g : Graph) (query : List ℕ) (width : ℕ) → IsGraph g → WalksWithin g query width
 walk_of_graph g query width w = record {
-    inside = visited_inside g query width (linked_from_graph g w) (entry_from_graph g w);
-    distinct = distinct_from g.points query width g.entry;
-    few = few_from g.points query width g.entry;
-    ended = ended_from g.points query width g.entry (linked_from_graph g w) (entry_from_graph g w);
-  }
+  inside = visited_inside g query width (linked_from_graph g w) (entry_from_graph g w);
+  distinct = distinct_from g.points query width g.entry;
+  few = few_from g.points query width g.entry;
+  ended = ended_from g.points query width g.entry (linked_from_graph g w) (entry_from_graph g w);
+}
 
 -- ---- put
 
@@ -201,10 +201,10 @@ module _ (params : Params) (g : Graph) (n tag : ℕ) (vector : List ℕ) (w : Ar
 
   new_linked : IsLinked (pids_of g.points ++ n ∷ []) n out
   new_linked = record {
-      rises = kept_rises (rule_of params) apart n (visited g vector params.l_build);
-      inside = λ p h. wider_left (pids_of g.points) (n ∷ []) p (out_inside p h);
-      other = not_among out n (λ h. both_ways _ (none_from_below n n (pids_of g.points) fresh (omega arith)) (out_inside n h));
-    }
+    rises = kept_rises (rule_of params) apart n (visited g vector params.l_build);
+    inside = λ p h. wider_left (pids_of g.points) (n ∷ []) p (out_inside p h);
+    other = not_among out n (λ h. both_ways _ (none_from_below n n (pids_of g.points) fresh (omega arith)) (out_inside n h));
+  }
 
   back_all : AllByRecursion (λ x. IsLinked (pids_of g.points ++ n ∷ []) x.pid x.links) (map back g.points)
   back_all =
@@ -258,10 +258,10 @@ long_put params g n tag vector d long l =
 
 pub graph_of_from : (params : Params) (g : Graph) → AreLinked g.points → IsEntry g.points g.entry → AreFew params.r g.points → AreLong params.d g.points → IsGraphOf params g
 graph_of_from params g w e few long = record {
-    sound = graph_from_linked g w e;
-    vectors = All-from_recursion (λ (x : Point). length x.vector ≡ params.d) g.points long;
-    degrees = All-from_recursion (λ (x : Point). length x.links ≤ params.r) g.points few;
-  }
+  sound = graph_from_linked g w e;
+  vectors = All-from_recursion (λ (x : Point). length x.vector ≡ params.d) g.points long;
+  degrees = All-from_recursion (λ (x : Point). length x.links ≤ params.r) g.points few;
+}
 
 pub few_of : (params : Params) (g : Graph) → IsGraphOf params g → AreFew params.r g.points
 few_of params g w = recursion_from_All (λ (x : Point). length x.links ≤ params.r) g.points w.degrees

@@ -10,3 +10,5 @@ pub mod Folds
 pub mod Named
 pub mod Alive
 pub mod Graphs
+pub mod Merges
+pub mod States

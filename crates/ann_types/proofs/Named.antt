@@ -1,16 +1,16 @@
 -- What the operations on graphs do to the tags and Pids of their points: `put` adds one, a merge drops the deleted ones and adds the new ones.
-use Rattle.std.proofs.Common.{◌≡◌, ℕ, zero, suc, ◌+◌, Bool, true, false, cond, eqb, not, List, [], ◌∷◌, ◌++◌, refl, sym, ap, ◌∙◌, subst, map, filter, flat_map, fold, take, drop, length, append_assoc, append-nil}
-use Rattle.std.specs.Prelude.{Some, None}
+use Rattle.std.proofs.Common.{◌≡◌, ℕ, Bool, true, false, cond, not, List, [], ◌∷◌, ◌++◌, refl, sym, ap, ◌∙◌, map, flat_map, fold, take, drop, append_assoc, append-nil}
+use Rattle.std.specs.Prelude.{Some}
 use Rattle.std.specs.List.{list_any}
 use Rattle.std.proofs.lemmas.List.{map-append, take-append-drop}
 use Rattle.std.proofs.lemmas.List.Elements.{filter-append}
-use Rattle.ann_types.specs.Order.{has, ascending}
+use Rattle.ann_types.specs.Order.{has}
 use Rattle.ann_types.specs.Kept.{Rule, rule_of, kept}
 use Rattle.ann_types.specs.Graph.{Point, Graph, with_vector, empty_graph, pids_of, apart_in, visited}
 use Rattle.ann_types.specs.Put.{alone, linked_back, put}
-use Rattle.ann_types.specs.Codes.{decoded, decoded_points, decoded_graph}
+use Rattle.ann_types.specs.Codes.{decoded, decoded_points}
 use Rattle.ann_types.specs.Index.{Index}
-use Rattle.ann_types.specs.Merge.{survivors, candidates, repaired, delete_phase, base_size, put_decoded, new_vector, first_base, base_points, outside, base_of, linked, insert_phase, patched, patch_phase, merged}
+use Rattle.ann_types.specs.Merge.{survivors, candidates, repaired, delete_phase, base_size, put_decoded, new_vector, first_base, base_points, outside, base_of, insert_phase, patched, patch_phase, merged}
 use Rattle.ann_types.specs.Lists.{Names, names_of}
 use Rattle.ann_types.specs.Fold.{Begun, State, new_point, new_points, merge_of}
 use Rattle.ann_types.specs.declared.params.Params.{Params}
