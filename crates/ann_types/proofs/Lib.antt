@@ -12,3 +12,7 @@ pub mod Alive
 pub mod Graphs
 pub mod Merges
 pub mod States
+pub mod Rounded
+pub mod Tagged
+pub mod Judged
+pub mod Found

@@ -44,7 +44,7 @@ linked_decoded index points w = record {
   linked = subst (λ (all : List ℕ). AllByRecursion (λ x. IsLinked all x.pid x.links) (decoded_points index.book points)) (sym (pids_decoded index points)) (linked_decoded_all index (pids_of points) points w.linked);
 }
 
-entry_decoded : (index : Index) (points : List Point) (o : Option ℕ) → IsEntry points o → IsEntry (decoded_points index.book points) o
+pub entry_decoded : (index : Index) (points : List Point) (o : Option ℕ) → IsEntry points o → IsEntry (decoded_points index.book points) o
 entry_decoded index points None h = ap (decoded_points index.book) h
 entry_decoded index points (Some e) h = ap (λ (t : List ℕ). has t e) (pids_decoded index points) ∙ h
 
