@@ -1,2 +1,16 @@
 pub mod Limits
 pub mod Distance
+pub mod Order
+pub mod Walk
+pub mod Kept
+pub mod Graph
+pub mod Put
+pub mod Codes
+pub mod Rounds
+pub mod Index
+pub mod Merge
+pub mod Lists
+pub mod Fold
+pub mod Legal
+pub mod Answer
+pub mod Judge
