@@ -1,1 +1,10 @@
 pub mod Distances
+pub mod WorkedIndexes
+pub mod WorkedGraphs
+pub mod WorkedMerges
+pub mod WorkedLists
+pub mod Ordered
+pub mod Walks
+pub mod Sets
+pub mod Keeps
+pub mod Folds
