@@ -1,12 +1,11 @@
 -- The laws of lists and of the fold, one entry and many entries at a time: a prefix of a legal list is legal, and a live tag stays live until it is deleted.
-use Rattle.std.proofs.Common.{◌≡◌, ℕ, zero, suc, ◌+◌, ◌-◌, ◌≤◌, ◌<◌, Bool, true, false, cond, eqb, not, List, [], ◌∷◌, ◌++◌, ◌&&◌, ◌||◌, refl, sym, ap, ◌∙◌, subst, arith, take, drop, length, append_assoc, append-nil, map, filter, count_by, ◌⊎◌, inl, inr, eqb-true, eq-eqb}
+use Rattle.std.proofs.Common.{◌≡◌, ℕ, ◌+◌, ◌-◌, Bool, true, false, cond, eqb, not, List, [], ◌∷◌, ◌++◌, ◌&&◌, ◌||◌, refl, sym, ap, ◌∙◌, subst, arith, drop, append_assoc, append-nil, count_by, inl, inr, eqb-true}
 use Rattle.std.specs.List.{list_any, list_all}
-use Rattle.std.proofs.lemmas.Bool.{false≢true, and_parts, and_from, or_cases, or_left, or_right, both_ways, not-true, ne_eqb, eqb-false}
+use Rattle.std.proofs.lemmas.Bool.{false≢true, and_parts, or_cases, or_left, or_right, both_ways, not-true}
 use Rattle.std.proofs.lemmas.List.{take-append-drop}
 use Rattle.std.proofs.lemmas.List.Sums.{sum_by-cons, sum_by_push}
-use Rattle.ann_types.specs.Graph.{Point, Graph}
 use Rattle.ann_types.specs.Index.{Index}
-use Rattle.ann_types.specs.Lists.{ListBase, BasedList, bare, length_of, upto, with_entries, with_entry, BeginsWith, makes_point, next_pid, Names, names_of, is_live, unmapped, mapped, live_after, live_from, live_of}
+use Rattle.ann_types.specs.Lists.{ListBase, BasedList, bare, upto, with_entries, with_entry, BeginsWith, makes_point, next_pid, Names, names_of, is_live, unmapped, mapped, live_after, live_from, live_of}
 use Rattle.ann_types.specs.Fold.{State, start, step, fold_from, fold_of}
 use Rattle.ann_types.specs.Legal.{may_follow, legal_from, is_legal}
 use Rattle.ann_types.specs.declared.entry.Entry.{Entry}
@@ -97,10 +96,11 @@ legal_upto index h n l =
 
 -- what is left of a list that begins with another
 pub begins_then : (h g : BasedList) → BeginsWith h g → (es : List Entry) × (h ≡ with_entries g es)
-begins_then h g b =
-    (b.entries.0,
-      ap (λ (t : ListBase). let l : BasedList = record { base = t; entries = h.entries } in l) b.base
-      ∙ ap (λ (t : List Entry). let l : BasedList = record { base = g.base; entries = t } in l) (sym b.entries.1))
+begins_then h g b = (
+  b.entries.0,
+  ap (λ (t : ListBase). let l : BasedList = record { base = t; entries = h.entries } in l) b.base
+      ∙ ap (λ (t : List Entry). let l : BasedList = record { base = g.base; entries = t } in l) (sym b.entries.1),
+)
 
 pub legal_begins : (index : Index) (h g : BasedList) → BeginsWith h g → is_legal index h ≡ true → is_legal index g ≡ true
 legal_begins index h g b l =
@@ -144,9 +144,9 @@ pub stays_mapped : (live : Names) (t tag pid : ℕ) → is_live live tag ≡ tru
 stays_mapped live t tag pid h =
     list_any-append (λ e. eqb e.0 tag) (unmapped live t) ((t, pid) ∷ [])
     ∙ elim (eqb t tag) as (λ b. eqb t tag ≡ b → (is_live (unmapped live t) tag || (b || false)) ≡ true) [
-        | true ↦ λ e. or_right (is_live (unmapped live t) tag) true refl
-        | false ↦ λ e. or_left (is_live (unmapped live t) tag) false (other_unmapped live t tag e h)
-      ] refl
+      | true ↦ λ e. or_right (is_live (unmapped live t) tag) true refl
+      | false ↦ λ e. or_left (is_live (unmapped live t) tag) false (other_unmapped live t tag e h)
+    ] refl
 
 pub stays_after : (live : Names) (next tag : ℕ) (e : Entry) → spares tag e ≡ true → is_live live tag ≡ true → is_live (live_after live next e) tag ≡ true
 stays_after live next tag (Insert by t vector) s h = stays_mapped live t tag next h

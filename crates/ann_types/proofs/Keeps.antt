@@ -1,8 +1,8 @@
 -- The laws of pruning: what a point keeps is a set of its candidates, of at most R members.
-use Rattle.std.proofs.Common.{◌≡◌, ℕ, zero, suc, ◌+◌, ◌≤◌, ◌<◌, Bool, true, false, cond, ltb, not, List, [], ◌∷◌, ◌++◌, ◌&&◌, refl, sym, ap, ◌∙◌, subst, arith, length, ltb-true, eq-eqb}
+use Rattle.std.proofs.Common.{◌≡◌, ℕ, ◌≤◌, Bool, true, false, cond, ltb, List, [], ◌∷◌, ◌++◌, refl, sym, ◌∙◌, arith, length, ltb-true, eq-eqb}
 use Rattle.std.proofs.lemmas.Bool.{false≢true, and_parts, ltb-false}
 use Rattle.std.proofs.lemmas.List.{length_push}
-use Rattle.ann_types.specs.Order.{in_order, has, ascending}
+use Rattle.ann_types.specs.Order.{in_order, has}
 use Rattle.ann_types.specs.Kept.{Rule, takes, keep, kept, within}
 use Rattle.ann_types.proofs.Ordered.{has_here, has_later, has_in_order}
 use Rattle.ann_types.proofs.Walks.{Inside, inside_append, inside_one}

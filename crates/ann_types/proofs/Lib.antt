@@ -8,3 +8,8 @@ pub mod Walks
 pub mod Sets
 pub mod Keeps
 pub mod Folds
+pub mod Named
+pub mod Alive
+pub mod Graphs
+pub mod Merges
+pub mod States

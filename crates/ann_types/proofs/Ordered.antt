@@ -1,5 +1,5 @@
 -- Lemmas on points in order.
-use Rattle.std.proofs.Common.{◌⊎◌, inl, inr, ltb-true, eqb-true, lt-ltb, eq-eqb, ◌≡◌, ℕ, zero, suc, ◌+◌, ◌≤◌, ◌<◌, Bool, true, false, cond, eqb, ltb, List, [], ◌∷◌, ◌++◌, ◌||◌, ◌&&◌, refl, sym, ap, subst, ◌∙◌, arith, take, drop, length, append_assoc, append-nil}
+use Rattle.std.proofs.Common.{◌⊎◌, inl, inr, ltb-true, eqb-true, lt-ltb, eq-eqb, ◌≡◌, ℕ, zero, suc, ◌≤◌, ◌<◌, Bool, true, false, cond, eqb, List, [], ◌∷◌, ◌++◌, ◌||◌, refl, sym, ap, subst, ◌∙◌, arith, take, append_assoc, append-nil}
 use Rattle.std.proofs.lemmas.List.{take-take}
 use Rattle.std.proofs.lemmas.Bool.{false≢true, cond-true, cond-false, eqb-false, or_cases, and_parts, or_left, or_right, and_from, false_from_ne_true, both_ways, ne_eqb}
 use Rattle.ann_types.specs.Order.{before, placed, all_placed, in_order, top, has}
@@ -269,13 +269,13 @@ stood_before far (suc n) y p [] ne h = absurd (both_ways _ ne (alone n h))
     alone (suc n) h = elim (has_cases y p [] h) [ inl e ↦ e | inr k ↦ absurd (false≢true k) ]
 stood_before far (suc n) y p (z ∷ s) ne h =
     let cases : has (take (suc n) (placed far y (z ∷ s))) p ≡ true → has (take (suc n) (z ∷ s)) p ≡ true =
-      elim (before far y z) as (λ t. has (take (suc n) (cond t (y ∷ z ∷ s) (cond (eqb y z) (z ∷ s) (z ∷ placed far y s)))) p ≡ true → has (take (suc n) (z ∷ s)) p ≡ true) [
-        | true ↦ λ k. elim (has_cases y p (take n (z ∷ s)) k) [ inl e ↦ absurd (both_ways _ ne e) | inr m ↦ has_take n (suc n) p (z ∷ s) (omega arith) m ]
-        | false ↦ elim (eqb y z) as (λ t. has (take (suc n) (cond t (z ∷ s) (z ∷ placed far y s))) p ≡ true → has (take (suc n) (z ∷ s)) p ≡ true) [
-          | true ↦ λ k. k
-          | false ↦ λ k. elim (has_cases z p (take n (placed far y s)) k) [ inl e ↦ has_here z p (take n s) e | inr m ↦ has_later z p (take n s) (stood_before far n y p s ne m) ]
-        ]
-      ] in
+    elim (before far y z) as (λ t. has (take (suc n) (cond t (y ∷ z ∷ s) (cond (eqb y z) (z ∷ s) (z ∷ placed far y s)))) p ≡ true → has (take (suc n) (z ∷ s)) p ≡ true) [
+      | true ↦ λ k. elim (has_cases y p (take n (z ∷ s)) k) [ inl e ↦ absurd (both_ways _ ne e) | inr m ↦ has_take n (suc n) p (z ∷ s) (omega arith) m ]
+      | false ↦ elim (eqb y z) as (λ t. has (take (suc n) (cond t (z ∷ s) (z ∷ placed far y s))) p ≡ true → has (take (suc n) (z ∷ s)) p ≡ true) [
+        | true ↦ λ k. k
+        | false ↦ λ k. elim (has_cases z p (take n (placed far y s)) k) [ inl e ↦ has_here z p (take n s) e | inr m ↦ has_later z p (take n s) (stood_before far n y p s ne m) ]
+      ]
+    ] in
     cases h
 
 stood_placed : (far : ℕ → ℕ) (n y p : ℕ) (s : List ℕ) → IsRising far s → has s p ≡ true → has (take n (placed far y s)) p ≡ true → has (take n s) p ≡ true

@@ -1,12 +1,10 @@
 -- Lemmas on sets of numbers as ascending lists.
-use Rattle.std.proofs.Common.{◌≡◌, ℕ, zero, suc, ◌+◌, ◌≤◌, ◌<◌, Bool, true, false, cond, eqb, ltb, not, List, [], ◌∷◌, ◌++◌, ◌||◌, refl, sym, ap, ◌∙◌, subst, arith, take, drop, length, get_or, ◌⊎◌, inl, inr, eqb-true, eq-eqb, ltb-true, lt-ltb, map, filter}
+use Rattle.std.proofs.Common.{◌≡◌, ℕ, zero, suc, ◌+◌, ◌≤◌, ◌<◌, Bool, true, false, cond, eqb, List, [], ◌∷◌, ◌++◌, refl, sym, subst, arith, length, get_or, inl, inr, eqb-true, eq-eqb, ltb-true, lt-ltb, map, filter}
 use Rattle.std.specs.List.{AllByRecursion}
 use Rattle.std.specs.List.Sorted.{IsStrictlyIncreasing}
-use Rattle.std.proofs.lemmas.Bool.{false≢true, or_cases, both_ways, ne_eqb}
-use Rattle.ann_types.specs.Order.{before, placed, all_placed, in_order, top, has, ascending}
-use Rattle.ann_types.specs.Merge.{without}
-use Rattle.ann_types.proofs.Ordered.{IsAfter, IsRising, has_in_order, has_append, has_here, has_later, has_cases, rising_in_order, in_order_rising}
-use Rattle.ann_types.proofs.Walks.{Inside}
+use Rattle.std.proofs.lemmas.Bool.{false≢true, both_ways}
+use Rattle.ann_types.specs.Order.{before, placed, all_placed, in_order, has, ascending}
+use Rattle.ann_types.proofs.Ordered.{IsAfter, IsRising, has_in_order, has_here, has_later, has_cases, rising_in_order, in_order_rising}
 
 -- each number is below those behind it
 abbrev pub Rises : List ℕ → Type 0
@@ -163,9 +161,9 @@ rises_right (x ∷ xs) ys (a, r) = rises_right xs ys r
 pub rises_across : (xs ys : List ℕ) (p q : ℕ) → Rises (xs ++ ys) → has xs p ≡ true → has ys q ≡ true → p < q
 rises_across [] ys p q r h k = absurd (false≢true h)
 rises_across (x ∷ xs) ys p q (a, r) h k = elim (has_cases x p xs h) [
-    | inl e ↦ (let same = eqb-true p x e in let above = has_above x q ys (all_right (λ y. x < y) xs ys a) k in omega arith)
-    | inr m ↦ rises_across xs ys p q r m k
-  ]
+  | inl e ↦ (let same = eqb-true p x e in let above = has_above x q ys (all_right (λ y. x < y) xs ys a) k in omega arith)
+  | inr m ↦ rises_across xs ys p q r m k
+]
 
 pub rises_filter : (q : ℕ → Bool) (xs : List ℕ) → Rises xs → Rises (filter q xs)
 rises_filter q [] r = tt
@@ -177,13 +175,13 @@ pub has_filter : (q : ℕ → Bool) (xs : List ℕ) (p : ℕ) → has (filter q 
 has_filter q [] p h = absurd (false≢true h)
 has_filter q (x ∷ xs) p h =
     let cases : has (filter q (x ∷ xs)) p ≡ true → (has (x ∷ xs) p ≡ true) × (q p ≡ true) =
-      elim (q x) as (λ t. q x ≡ t → has (cond t (x ∷ filter q xs) (filter q xs)) p ≡ true → (has (x ∷ xs) p ≡ true) × (q p ≡ true)) [
-        | true ↦ λ e k. elim (has_cases x p (filter q xs) k) [
-          | inl s ↦ (has_here x p xs s, subst (λ (t : ℕ). q t ≡ true) (sym (eqb-true p x s)) e)
-          | inr m ↦ (has_later x p xs (has_filter q xs p m).0, (has_filter q xs p m).1)
-        ]
-        | false ↦ λ e k. (has_later x p xs (has_filter q xs p k).0, (has_filter q xs p k).1)
-      ] refl in
+    elim (q x) as (λ t. q x ≡ t → has (cond t (x ∷ filter q xs) (filter q xs)) p ≡ true → (has (x ∷ xs) p ≡ true) × (q p ≡ true)) [
+      | true ↦ λ e k. elim (has_cases x p (filter q xs) k) [
+        | inl s ↦ (has_here x p xs s, subst (λ (t : ℕ). q t ≡ true) (sym (eqb-true p x s)) e)
+        | inr m ↦ (has_later x p xs (has_filter q xs p m).0, (has_filter q xs p m).1)
+      ]
+      | false ↦ λ e k. (has_later x p xs (has_filter q xs p k).0, (has_filter q xs p k).1)
+    ] refl in
     cases h
 
 pub filter_has : (q : ℕ → Bool) (xs : List ℕ) (p : ℕ) → has xs p ≡ true → q p ≡ true → has (filter q xs) p ≡ true

@@ -1,15 +1,15 @@
 -- Lemmas and laws on walks: a visited point isn't visited again, and what has left the least points met never comes back.
-use Rattle.std.proofs.Common.{◌≡◌, ℕ, zero, suc, ◌+◌, ◌≤◌, ◌<◌, Bool, true, false, cond, eqb, not, List, [], ◌∷◌, ◌++◌, ◌||◌, refl, sym, ap, ◌∙◌, subst, arith, take, length, append_assoc, ◌⊎◌, inl, inr, eqb-true, eq-eqb}
+use Rattle.std.proofs.Common.{◌≡◌, ℕ, zero, suc, ◌+◌, ◌≤◌, Bool, true, false, cond, eqb, not, List, [], ◌∷◌, ◌++◌, refl, sym, ap, ◌∙◌, subst, arith, take, length, append_assoc, ◌⊎◌, inl, inr, eqb-true, eq-eqb}
 use Rattle.std.specs.Prelude.{Option, Some, None, flat_map, find, filter, option_to_list}
-use Rattle.std.specs.List.{list_any, IsDistinct}
-use Rattle.std.specs.Cmp.{IsEquivalence, nat_eq_equiv}
+use Rattle.std.specs.List.{IsDistinct}
+use Rattle.std.specs.Cmp.{nat_eq_equiv}
 use Rattle.std.proofs.lemmas.List.{append-nil, length_push}
-use Rattle.std.proofs.lemmas.Bool.{false≢true, or_cases, both_ways, not-true}
+use Rattle.std.proofs.lemmas.Bool.{false≢true, or_cases, not-true}
 use Rattle.std.proofs.lemmas.Map.Keys.{IsDistinct-push}
 use Rattle.std.proofs.lemmas.Map.Made.{length-le_from_is_member}
-use Rattle.ann_types.specs.Order.{placed, all_placed, in_order, top, has}
+use Rattle.ann_types.specs.Order.{all_placed, in_order, top, has}
 use Rattle.ann_types.specs.Walk.{Ground, met, near, next, walk_on, visited_of}
-use Rattle.ann_types.specs.Rounds.{round, rounds_on, rounds_of}
+use Rattle.ann_types.specs.Rounds.{rounds_on}
 use Rattle.ann_types.proofs.Ordered.{all_placed-append, has_append, has_here, has_later, has_cases, top_inside, top_stays}
 
 flat_map_push : (f : ℕ → List ℕ) (v : List ℕ) (p : ℕ) → flat_map f (v ++ p ∷ []) ≡ flat_map f v ++ f p
@@ -53,7 +53,7 @@ near_stays g width p v w there h = top_stays g.far width p (met g v) (flat_map g
 
 -- ---- The members of a walk
 
-none_distinct : IsDistinct eqb []
+pub none_distinct : IsDistinct eqb []
 unfolding IsDistinct
 none_distinct = tt
 
@@ -61,20 +61,20 @@ pub find_has : (q : ℕ → Bool) (p : ℕ) (s : List ℕ) → find q s ≡ Some
 find_has q p [] h = absurd (none_some p h)
 find_has q p (x ∷ s) h =
     let cases : find q (x ∷ s) ≡ Some p → has (x ∷ s) p ≡ true =
-      elim (q x) as (λ t. cond t (Some x) (find q s) ≡ Some p → has (x ∷ s) p ≡ true) [
-        | true ↦ λ k. has_here x p s (eq-eqb p x (sym (some_is x p k)))
-        | false ↦ λ k. has_later x p s (find_has q p s k)
-      ] in
+    elim (q x) as (λ t. cond t (Some x) (find q s) ≡ Some p → has (x ∷ s) p ≡ true) [
+      | true ↦ λ k. has_here x p s (eq-eqb p x (sym (some_is x p k)))
+      | false ↦ λ k. has_later x p s (find_has q p s k)
+    ] in
     cases h
 
 pub find_test : (q : ℕ → Bool) (p : ℕ) (s : List ℕ) → find q s ≡ Some p → q p ≡ true
 find_test q p [] h = absurd (none_some p h)
 find_test q p (x ∷ s) h =
     let cases : find q (x ∷ s) ≡ Some p → q p ≡ true =
-      elim (q x) as (λ t. q x ≡ t → cond t (Some x) (find q s) ≡ Some p → q p ≡ true) [
-        | true ↦ λ e k. subst (λ (t : ℕ). q t ≡ true) (some_is x p k) e
-        | false ↦ λ e k. find_test q p s k
-      ] refl in
+    elim (q x) as (λ t. q x ≡ t → cond t (Some x) (find q s) ≡ Some p → q p ≡ true) [
+      | true ↦ λ e k. subst (λ (t : ℕ). q t ≡ true) (some_is x p k) e
+      | false ↦ λ e k. find_test q p s k
+    ] refl in
     cases h
 
 -- the next point is among the points met, and new
@@ -172,6 +172,6 @@ one_at_a_time g width zero v = refl
 one_at_a_time g width (suc n) v =
     ap (λ (r : List ℕ). elim r as (λ _. List ℕ) [ [] ↦ v | p ∷ ps ↦ rounds_on g width 1 n (v ++ p ∷ ps) ]) (first_one (λ p. not (has v p)) (near g width v))
     ∙ elim (next g width v) as (λ o. (elim (option_to_list o) as (λ _. List ℕ) [ [] ↦ v | p ∷ ps ↦ rounds_on g width 1 n (v ++ p ∷ ps) ]) ≡ (elim o as (λ _. List ℕ) [ None ↦ v | Some p ↦ walk_on g width n (v ++ p ∷ []) ])) [
-        | None ↦ refl
-        | Some p ↦ one_at_a_time g width n (v ++ p ∷ [])
-      ]
+      | None ↦ refl
+      | Some p ↦ one_at_a_time g width n (v ++ p ∷ [])
+    ]

@@ -6,13 +6,9 @@ use Rattle.ann_types.specs.Rounds.{rounds}
 use Rattle.ann_types.specs.Index.{Index}
 use Rattle.ann_types.specs.Merge.{without}
 use Rattle.ann_types.specs.Lists.{BasedList}
-use Rattle.ann_types.specs.Fold.{State, fold_of}
+use Rattle.ann_types.specs.Fold.{State, all_points, fold_of}
 use Rattle.ann_types.specs.declared.ask.Ask.{Ask}
 use Rattle.ann_types.specs.declared.hit.Hit.{Hit}
-
--- the points of all graphs of a state
-abbrev pub all_points : State → List Point
-all_points s = s.rw.points ++ flat_map (λ (g : Graph). g.points) s.ros ++ s.lti.points
 
 -- the candidates of a search of this width: Near of each graph in memory, and the points that rounds visit in the long-term graph
 abbrev pub found : Index → State → List ℕ → ℕ → List ℕ

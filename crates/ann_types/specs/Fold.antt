@@ -1,11 +1,11 @@
 -- What a list of entries leaves: the graphs in memory, the long-term graph and the delete list (FreshDiskANN, section 5.1).
-use Rattle.std.specs.Prelude.{ℕ, List, [], ◌∷◌, ◌++◌, ◌==◌, Option, Some, None, map, flat_map, take, drop, length, if◌then◌else◌}
-use Rattle.ann_types.specs.Order.{ascending}
+use Rattle.std.specs.Prelude.{ℕ, List, [], ◌∷◌, ◌++◌, ◌==◌, Option, Some, None, not, map, filter, flat_map, take, drop, length, if◌then◌else◌}
+use Rattle.ann_types.specs.Order.{has, ascending}
 use Rattle.ann_types.specs.Graph.{Point, Graph, empty_graph, is_empty}
 use Rattle.ann_types.specs.Put.{put}
 use Rattle.ann_types.specs.Index.{Index}
 use Rattle.ann_types.specs.Merge.{without, survivors, merged}
-use Rattle.ann_types.specs.Lists.{BasedList, bare, with_entry, length_of, next_pid, pids_at, live_of}
+use Rattle.ann_types.specs.Lists.{Names, names_of, BasedList, bare, with_entry, length_of, next_pid, pids_at, live_of}
 use Rattle.ann_types.specs.declared.params.Params.{Params}
 use Rattle.ann_types.specs.declared.new_point.NewPoint.{NewPoint}
 use Rattle.ann_types.specs.declared.entry.Entry.{Entry}
@@ -24,6 +24,14 @@ pub record State : Type 0 where
   pub lti : Graph
   pub dead : List ℕ
   pub begun : Option Begun
+
+-- the points of all graphs of a state, in order of Pid
+abbrev pub all_points : State → List Point
+all_points s = s.lti.points ++ flat_map (λ (g : Graph). g.points) s.ros ++ s.rw.points
+
+-- the points that aren't deleted, as tag and Pid
+abbrev pub alive_of : State → Names
+alive_of s = filter (λ e. not (has s.dead e.1)) (names_of (all_points s))
 
 -- the state of a list without entries: the long-term graph is the base's, all else is empty
 abbrev pub start : Graph → State
