@@ -1,3 +1,4 @@
+pub mod Distances
 pub mod WorkedIndexes
 pub mod WorkedGraphs
 pub mod WorkedMerges

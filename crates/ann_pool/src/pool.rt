@@ -1,0 +1,185 @@
+ghost use Rattle.std.specs.Prelude.{◌≡◌, ◌≤◌, ◌<◌, ◌⊎◌, ℕ, [], true, false, length, IfOk, IfSome, IsNone, ◌↔◌, Contains, find, insert, vec_len, vec_capacity};
+ghost use Rattle.ann_types.specs.Order.{has};
+ghost use Rattle.ann_pool.specs.Pool.{item_before, IsInOrder, IsSameWhereThere, IsPlaceOf, offered, pooled, unvisited, marked, fresh, Shown};
+
+use crate::item::Item;
+use crate::known::Known;
+use std::alloc::{AllocError, Global};
+use std::marker::Model;
+
+/// The most items of a pool.
+const ROOM: usize = 1000;
+
+/// The least items that were offered, in order of distance and number, up to a limit.
+///
+/// The candidate list of GreedySearch (DiskANN, section 2.1). It has room for 1000 items from the start, and takes no
+/// memory after that.
+#[derive(Drop)]
+pub struct Pool {
+    limit: u16,
+    items: Vec<Item>,
+    known: Known,
+}
+
+impl Model for Pool {
+    ghost Value = { Shown };
+
+    ghost view = { λ p. record { limit = p.limit; items = p.items.items; known = p.known } };
+
+    ghost invariant = { λ p. (1 ≤ p.limit) × (p.limit ≤ 1000) × (vec_len p.items ≤ p.limit) × (1000 < vec_capacity p.items) × IsInOrder p.items.items };
+}
+
+fn is_before(x: &Item, y: &Item) -> bool
+    ensures { result ≡ item_before x.now y.now }
+{
+    x.distance < y.distance || (x.distance == y.distance && x.number < y.number)
+}
+
+/// How many items stand before this one.
+fn place_of(items: &[Item], item: &Item) -> usize
+    requires { IsInOrder items.now }
+    ensures { IsPlaceOf item.now items.now result }
+{
+    items.partition_point(|other| is_before(other, item))
+}
+
+/// Whether a full list ends before this item.
+fn is_past(items: &[Item], limit: usize, item: &Item) -> bool
+    requires order { IsInOrder items.now }
+    requires some { 1 ≤ limit }
+    ensures full { result ≡ true → length items.now ≡ limit }
+    ensures last { result ≡ true → IsPlaceOf item.now items.now limit }
+{
+    items.len() == limit && is_before(&items[limit - 1], item)
+}
+
+/// Whether the item at its place has the number that is offered.
+fn is_there(items: &[Item], place: usize, item: &Item) -> bool
+    requires place { IsPlaceOf item.now items.now place }
+    requires same { IsSameWhereThere item.now items.now }
+    ensures there { result ≡ true → offered item.now items.now ≡ items.now }
+    ensures new { result ≡ false → offered item.now items.now ≡ insert items.now place item.now }
+{
+    place < items.len() && items[place].number == item.number
+}
+
+fn offer_to(items: &mut Vec<Item>, limit: usize, item: Item)
+    requires order { IsInOrder items.old.items }
+    requires same { IsSameWhereThere item items.old.items }
+    requires some { 1 ≤ limit }
+    requires room { limit < vec_capacity items.old }
+    requires few { vec_len items.old ≤ limit }
+    ensures items { items.new.items ≡ pooled limit item items.old.items }
+    ensures few { vec_len items.new ≤ limit }
+    ensures room { vec_capacity items.old ≤ vec_capacity items.new }
+{
+    if is_past(items, limit, &item) {
+        return;
+    }
+    let place = place_of(items, &item);
+    if is_there(items, place, &item) {
+        return;
+    }
+    let _ = items.insert(place, item);
+    items.truncate(limit);
+}
+
+/// Marks the least unvisited item, and gives it as it was.
+fn mark_first(items: &mut [Item]) -> Option<Item>
+    ensures found { result ≡ find unvisited items.old }
+    ensures inside { IfSome result (λ x. Contains items.old x) }
+    ensures marked { items.new ≡ marked items.old }
+{
+    for i in 0..items.len() {
+        let item = items[i];
+        if !item.visited {
+            items[i] = Item {
+                visited: true,
+                ..item
+            };
+            return Some(item);
+        }
+    }
+    None
+}
+
+impl Pool {
+    /// A pool without items, of limit 1000 and with room for as many.
+    pub fn with_room(alloc: Global) -> Result<Pool, AllocError>
+        ensures { IfOk result (λ pool. pool ≡ record { limit = 1000; items = []; known = [] }) }
+    {
+        Ok(Pool {
+            limit: 1000,
+            items: Vec::with_capacity(alloc, ROOM + 1)?,
+            known: Known::new(alloc)?,
+        })
+    }
+
+    /// Drops all items, and sets how many there may be: 1 to 1000.
+    pub fn clear(&mut self, limit: u16)
+        requires { (1 ≤ limit) × (limit ≤ 1000) }
+        ensures { self.new ≡ record { limit = limit; items = []; known = [] } }
+    {
+        self.limit = limit;
+        self.items.clear();
+        self.known.clear();
+    }
+
+    /// Offers a number at a distance, unvisited.
+    ///
+    /// Where the number is there, nothing changes; its distance is then this one. Else the items are the least of the
+    /// items and the new one, as many as the limit allows.
+    pub fn offer(&mut self, distance: u32, number: u32)
+        requires { IsSameWhereThere (fresh distance number) self.old.items }
+        ensures limit { self.new.limit ≡ self.old.limit }
+        ensures items { self.new.items ≡ pooled self.old.limit (fresh distance number) self.old.items }
+
+        // What is known was offered: before, or now.
+        ensures known { (z : ℕ) → has self.new.known z ≡ true → (has self.old.known z ≡ true) ⊎ (z ≡ number) }
+    {
+        let item = Item {
+            distance,
+            number,
+            visited: false,
+        };
+        self.known.note(number);
+        offer_to(&mut self.items, usize::from(self.limit), item);
+    }
+
+    /// Whether this number is known to have been offered since the pool was cleared; a number may be forgotten.
+    ///
+    /// To offer such a number again at its distance would change nothing, so a walk spares its distance.
+    pub fn knows(&self, number: u32) -> bool
+        ensures { result ≡ true → has self.now.known number ≡ true }
+    {
+        self.known.has(number)
+    }
+
+    /// Marks the least unvisited item and gives it as it was before; `None` exactly where every item is marked.
+    pub fn next_unvisited(&mut self) -> Option<Item>
+        ensures found { result ≡ find unvisited self.old.items }
+        ensures inside { IfSome result (λ x. Contains self.old.items x) }
+        ensures limit { self.new.limit ≡ self.old.limit }
+        ensures marked { self.new.items ≡ marked self.old.items }
+        ensures known { self.new.known ≡ self.old.known }
+    {
+        mark_first(&mut self.items)
+    }
+
+    /// The items, in order of distance and number.
+    pub fn items(&self) -> &[Item]
+        ensures items { result.now ≡ self.now.items }
+        ensures order { IsInOrder self.now.items }
+        ensures few { length self.now.items ≤ self.now.limit }
+    {
+        &self.items
+    }
+
+    /// How many items there may be.
+    pub fn limit(&self) -> u16
+        ensures limit { result ≡ self.now.limit }
+        ensures inside { (1 ≤ result) × (result ≤ 1000) }
+    {
+        self.limit
+    }
+}
