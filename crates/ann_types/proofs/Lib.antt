@@ -17,3 +17,5 @@ pub mod Rounded
 pub mod Tagged
 pub mod Judged
 pub mod Found
+pub mod Renamed
+pub mod Rowed
