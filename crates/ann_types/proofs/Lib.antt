@@ -19,3 +19,4 @@ pub mod Judged
 pub mod Found
 pub mod Renamed
 pub mod Rowed
+pub mod Coded
