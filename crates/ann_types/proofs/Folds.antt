@@ -1,4 +1,5 @@
--- The laws of lists and of the fold, one entry and many entries at a time: a prefix of a legal list is legal, and a live tag stays live until it is deleted.
+-- The laws of lists and of the fold, one entry and many entries at a time: a prefix of a legal list is
+-- legal, and a live tag stays live until it is deleted.
 use Rattle.std.proofs.Common.{◌≡◌, ℕ, ◌+◌, ◌-◌, Bool, true, false, cond, eqb, not, List, [], ◌∷◌, ◌++◌, ◌&&◌, ◌||◌, refl, sym, ap, ◌∙◌, subst, arith, drop, append_assoc, append-nil, count_by, inl, inr, eqb-true}
 use Rattle.std.specs.List.{list_all}
 use Rattle.std.proofs.lemmas.Bool.{false≢true, and_parts, or_cases, or_left, or_right, both_ways, not-true}

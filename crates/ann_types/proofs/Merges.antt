@@ -394,7 +394,8 @@ rises_kept q (x ∷ xs) ys (a, r) =
       | false ↦ rises_kept q xs ys r
     ]
 
--- A merge leaves a graph of the index, where the new points stand in order behind those of the long-term graph and their vectors have d components.
+-- A merge leaves a graph of the index, where the new points stand in order behind those of the long-term
+-- graph and their vectors have d components.
 pub merged_graph : (index : Index) (lti : Graph) (new : List NewPoint) (gone : List ℕ) → IsGraphOf index.params lti → Rises (pids_of lti.points ++ new_pids new) → NewLong index.params.d new → IsGraphOf index.params (merged index lti new gone)
 unfolding merged base_of
 merged_graph index lti new gone w r long =

@@ -1,4 +1,5 @@
--- The laws of rounds: they stay in their graph, visit no point twice and end where there is none left; with one point a round they are the walk.
+-- The laws of rounds: they stay in their graph, visit no point twice and end where there is none left;
+-- with one point a round they are the walk.
 use Rattle.std.proofs.Common.{◌≡◌, ℕ, zero, suc, ◌+◌, ◌≤◌, Bool, true, false, cond, eqb, not, List, [], ◌∷◌, ◌++◌, ◌||◌, refl, sym, ap, ◌∙◌, subst, arith, take, filter, length, append_assoc, append-nil, ◌⊎◌, inl, inr, eqb-true, eq-eqb}
 use Rattle.std.specs.Prelude.{Option, Some, None}
 use Rattle.std.specs.List.{AllByRecursion, IsDistinct}
@@ -140,7 +141,8 @@ rounds_of_one_from book points query width (Some e) =
 pub rounds_of_one : (book : Book) (graph : Graph) (query : List ℕ) (width : ℕ) → rounds book graph query width 1 ≡ visited (decoded_graph book graph) query width
 rounds_of_one book graph query width = rounds_of_one_from book graph.points query width graph.entry
 
--- The points that rounds visit are points of the graph, differ, are at most as many, and the rounds end where one is empty.
+-- The points that rounds visit are points of the graph, differ, are at most as many, and the rounds end
+-- where one is empty.
 abbrev pub HaveEnded : Index → List Point → List ℕ → ℕ → ℕ → Option ℕ → Type 0
 HaveEnded index points query width w None = Unit {0}
 HaveEnded index points query width w (Some e) = round (ground (decoded_points index.book points) query e) width w (rounds_from index.book points query width w (Some e)) ≡ []

@@ -78,7 +78,8 @@ row_of (x ∷ points) p h =
       | false ↦ λ e k. (let later = row_of points p k in (suc later.0, (let l = later.1 in omega arith), later.2))
     ] refl h
 
--- What a walk by rows sees is what the walk of the graph sees, by another name, where the rows' neighbours are the rows of the points' neighbours.
+-- What a walk by rows sees is what the walk of the graph sees, by another name, where the rows' neighbours
+-- are the rows of the points' neighbours.
 pub renames_at : (points : List Point) (query : List ℕ) (entry : ℕ) (links : ℕ → List ℕ) (far : ℕ → ℕ) → Rises (pids_of points) → entry < length points → ((r : ℕ) → r < length points → links_of points (pid_at points r) ≡ map (pid_at points) (links r)) → ((r : ℕ) → r < length points → Below (length points) (links r)) → ((r : ℕ) → r < length points → far_from points query (pid_at points r) ≡ far r) → Renames (pid_at points) (length points) (record { entry = entry; links = links; far = far }) (ground points query (pid_at points entry))
 renames_at points query entry links far w e names inside same = record {
   rise = pids_rise_at points w;

@@ -1,4 +1,4 @@
--- Live tags as a map: each tag stands once, and no Pid is past the last one.
+-- Live tags as a map: each tag stands once, and the next Pid is at most the end of the Pids.
 use Rattle.std.proofs.Common.{◌≡◌, ◌≢◌, ℕ, suc, ◌+◌, ◌≤◌, ◌<◌, Bool, true, false, cond, eqb, ltb, not, List, [], ◌∷◌, ◌++◌, ◌||◌, refl, sym, ap, ◌∙◌, subst, arith, map, filter, length, get_or, eqb-true, eq-eqb, AllPairs, ltb-true}
 use Rattle.std.proofs.lemmas.Bool.{false≢true, or_parts, or_from, and_parts, both_ways, ne_eqb}
 use Rattle.std.proofs.lemmas.List.Folds.{list_any-append}
@@ -6,7 +6,7 @@ use Rattle.ann_types.specs.Graph.{Point}
 use Rattle.ann_types.specs.Index.{Index}
 use Rattle.ann_types.specs.Lists.{BasedList, bare, with_entry, with_entries, IsBaseOf, makes_point, next_pid, Names, names_of, is_live, pids_at, unmapped, live_after, live_from, live_of}
 use Rattle.ann_types.specs.Fold.{State, start, step}
-use Rattle.ann_types.specs.Legal.{last_pid, fits, may_follow, legal_from, is_legal}
+use Rattle.ann_types.specs.Legal.{pid_end, fits, may_follow, legal_from, is_legal}
 use Rattle.ann_types.specs.declared.params.Params.{Params}
 use Rattle.ann_types.specs.declared.entry.Entry.{Entry}
 use Rattle.ann_types.specs.declared.entry.Entry.TheVariants.{Insert, Delete, Begin, End, Replace}
@@ -88,27 +88,27 @@ pids_at_one (e ∷ es) tag (n, d) h =
       | false ↦ λ differ. pids_at_one es tag d (ap (λ t. t || is_live es tag) (sym differ) ∙ h)
     ] refl
 
--- ---- Pids end at the last one
+-- ---- Pids end
 
-room_of : (params : Params) (h : BasedList) (vector : List ℕ) → fits params h vector ≡ true → next_pid h < last_pid
-room_of params h vector f = ltb-true (next_pid h) last_pid (and_parts (eqb (length vector) params.d) (ltb (next_pid h) last_pid) f).1
+room_of : (params : Params) (h : BasedList) (vector : List ℕ) → fits params h vector ≡ true → next_pid h < pid_end
+room_of params h vector f = ltb-true (next_pid h) pid_end (and_parts (eqb (length vector) params.d) (ltb (next_pid h) pid_end) f).1
 
-next_after : (params : Params) (h : BasedList) (s : State) (e : Entry) → next_pid h ≤ last_pid → may_follow params h s e ≡ true → next_pid h + cond (makes_point e) 1 0 ≤ last_pid
-next_after params h s (Insert by tag vector) l m = let room : next_pid h < last_pid = room_of params h vector (and_parts (fits params h vector) (not (is_live (live_of h) tag)) m).0 in omega arith
+next_after : (params : Params) (h : BasedList) (s : State) (e : Entry) → next_pid h ≤ pid_end → may_follow params h s e ≡ true → next_pid h + cond (makes_point e) 1 0 ≤ pid_end
+next_after params h s (Insert by tag vector) l m = let room : next_pid h < pid_end = room_of params h vector (and_parts (fits params h vector) (not (is_live (live_of h) tag)) m).0 in omega arith
 next_after params h s (Delete by tag) l m = omega arith
 next_after params h s (Begin by) l m = omega arith
 next_after params h s (End by segment) l m = omega arith
-next_after params h s (Replace by tag vector) l m = let room : next_pid h < last_pid = room_of params h vector (and_parts (fits params h vector) (is_live (live_of h) tag) m).0 in omega arith
+next_after params h s (Replace by tag vector) l m = let room : next_pid h < pid_end = room_of params h vector (and_parts (fits params h vector) (is_live (live_of h) tag) m).0 in omega arith
 
-pub next_pid_after : (params : Params) (h : BasedList) (s : State) (e : Entry) → next_pid h ≤ last_pid → may_follow params h s e ≡ true → next_pid (with_entry h e) ≤ last_pid
+pub next_pid_after : (params : Params) (h : BasedList) (s : State) (e : Entry) → next_pid h ≤ pid_end → may_follow params h s e ≡ true → next_pid (with_entry h e) ≤ pid_end
 next_pid_after params h s e l m = let more = next_pid_push h e in let room = next_after params h s e l m in omega arith
 
-next_from : (index : Index) (h : BasedList) (s : State) (es : List Entry) → next_pid h ≤ last_pid → legal_from index h s es ≡ true → next_pid (with_entries h es) ≤ last_pid
-next_from index h s [] l k = subst (λ (g : BasedList). next_pid g ≤ last_pid) (sym (entries_none h)) l
+next_from : (index : Index) (h : BasedList) (s : State) (es : List Entry) → next_pid h ≤ pid_end → legal_from index h s es ≡ true → next_pid (with_entries h es) ≤ pid_end
+next_from index h s [] l k = subst (λ (g : BasedList). next_pid g ≤ pid_end) (sym (entries_none h)) l
 next_from index h s (e ∷ es) l k =
     let both = and_parts (may_follow index.params h s e) (legal_from index (with_entry h e) (step index h s e) es) k in
-    subst (λ (g : BasedList). next_pid g ≤ last_pid) (entries_then h (e ∷ []) es) (next_from index (with_entry h e) (step index h s e) es (next_pid_after index.params h s e l both.0) both.1)
+    subst (λ (g : BasedList). next_pid g ≤ pid_end) (entries_then h (e ∷ []) es) (next_from index (with_entry h e) (step index h s e) es (next_pid_after index.params h s e l both.0) both.1)
 
--- The next Pid of a legal list is at most the last one.
-pub next_pid_ends : (index : Index) (h : BasedList) → h.base.next ≤ last_pid → is_legal index h ≡ true → next_pid h ≤ last_pid
+-- The next Pid of a legal list is at most the end of the Pids.
+pub next_pid_ends : (index : Index) (h : BasedList) → h.base.next ≤ pid_end → is_legal index h ≡ true → next_pid h ≤ pid_end
 next_pid_ends index h l k = next_from index (bare h.base) (start h.base.graph) h.entries (let same : next_pid (bare h.base) ≡ h.base.next = omega arith in omega arith) k
