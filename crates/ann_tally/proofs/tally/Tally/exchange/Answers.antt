@@ -1,9 +1,9 @@
-use Rattle.std.proofs.Common.{rules, ◌≡◌, sym, subst, ap, ◌∙◌, ◌<◌, arith, ℕ, length, set}
+use Rattle.std.proofs.Common.{rules, sym, subst, ap, ◌∙◌, arith, set}
 use Rattle.std.specs.Prelude.{slice_get}
 use Rattle.ann_tally.specs.declared.numbers.Numbers.{Numbers}
-use Rattle.ann_tally.specs.Rule.{half, hand, numbered, numbers_of, HasAll}
-use Rattle.ann_tally.specs.Tally.{Book, Roll}
-use Rattle.ann_tally.proofs.Chits.{joined, stays, goes, agreed}
+use Rattle.ann_tally.specs.Rule.{half, numbered, numbers_of, HasAll}
+use Rattle.ann_tally.specs.Tally.{Book}
+use Rattle.ann_tally.proofs.Chits.{joined, stays, agreed}
 use Rattle.ann_tally.proofs.Lists.{one_each, length_numbers_set}
 use Rattle.ann_tally.proofs.Steps.{splits, joins, puts}
 use Rattle.ann_tally.proofs.tally.Tally.exchange.Goals as goal
