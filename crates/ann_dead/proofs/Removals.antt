@@ -1,10 +1,10 @@
 -- Going over runs and their Pids, one at a time.
-use Rattle.std.proofs.Common.{◌≡◌, ℕ, zero, suc, ◌+◌, ◌<◌, ◌≤◌, Bool, true, false, not, List, [], ◌∷◌, ◌++◌, length, take, get_or, refl, sym, ap, ◌∙◌, subst, arith, eqb-true}
+use Rattle.std.proofs.Common.{◌≡◌, ℕ, zero, suc, ◌+◌, ◌<◌, ◌≤◌, Bool, true, false, not, List, [], ◌∷◌, length, take, get_or, refl, sym, ap, ◌∙◌, arith, eqb-true}
 use Rattle.std.specs.Prelude.{◌==◌, ◌||◌, ◌&&◌}
-use Rattle.std.proofs.Math.Bool.{or-false, or-true, true-or}
+use Rattle.std.proofs.Math.Bool.{or-false, or-true}
 use Rattle.std.proofs.Math.Seq.{take-suc}
 use Rattle.std.proofs.lemmas.List.{take_all}
-use Rattle.ann_dead.specs.Pids.{has, with_pid, without, union, union_of, IsAscending}
+use Rattle.ann_dead.specs.Pids.{has, with_pid, without, union_of, IsAscending}
 use Rattle.ann_dead.proofs.Sets.{has_with, has_append, has_union, has_filter, ascending_filter, same_set}
 use Rattle.ann_dead.proofs.Runs.{take_last, has_union_of_append}
 

@@ -1,18 +1,18 @@
 -- Lists of runs.
-use Rattle.std.proofs.Common.{◌≡◌, ◌≢◌, ℕ, zero, suc, ◌+◌, ◌*◌, ◌^◌, ◌<◌, ◌≤◌, Bool, true, false, List, [], ◌∷◌, ◌++◌, length, map, take, drop, get_or, reverse, refl, sym, ap, ◌∙◌, subst, arith, length-append, append_assoc}
+use Rattle.std.proofs.Common.{◌≡◌, ℕ, zero, suc, ◌+◌, ◌*◌, ◌^◌, ◌<◌, ◌≤◌, Bool, true, false, List, [], ◌∷◌, ◌++◌, length, map, take, get_or, reverse, refl, sym, ap, ◌∙◌, subst, arith, append_assoc}
 use Rattle.std.specs.Prelude.{◌==◌, ◌||◌}
 use Rattle.std.specs.List.{list_any}
-use Rattle.std.proofs.lemmas.List.{append-nil, map-append, reverse-append, length-reverse, length-map, length-take-le}
+use Rattle.std.proofs.lemmas.List.{map-append, reverse-append, length-reverse, length-map}
 use Rattle.std.proofs.Math.Seq.{take-suc}
 use Rattle.std.proofs.Math.Pow.{pow_mono}
 use mathlib.Core.Logic.{dite}
 use Rattle.std.proofs.Math.Decide.{dec_lt}
-use Rattle.ann_dead.specs.Pids.{has, with_pid, union, union_of, AreAbove, AreBelow, IsAscending}
+use Rattle.ann_dead.specs.Pids.{has, with_pid, union, union_of, AreBelow, IsAscending}
 use Rattle.ann_dead.specs.Digits.{digits_of, carried}
 use Rattle.ann_dead.specs.Run.{IsRun}
 use Rattle.ann_dead.specs.Dead.{total, sizes, AreRuns, AreDigits}
-use Rattle.ann_dead.proofs.Sets.{order_cases, with_less, with_same, with_more, has_with, has_union, has_append, ascending_union, ascending_union_of, ascending_with, same_set, length_union_le, length_union_of_le, length_with_new, length_ascending, union_nothing, or_assoc}
-use Rattle.ann_dead.proofs.Digits.{digits-next, digits-zero, length-digits, carried_same, carried_apart}
+use Rattle.ann_dead.proofs.Sets.{order_cases, with_less, with_same, with_more, has_with, has_union, ascending_union, ascending_union_of, ascending_with, same_set, length_union_le, length_union_of_le, length_with_new, length_ascending, union_nothing, or_assoc}
+use Rattle.ann_dead.proofs.Digits.{digits-next, digits-zero, length-digits, carried_same}
 
 -- Members
 

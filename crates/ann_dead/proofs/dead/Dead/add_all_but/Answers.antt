@@ -1,4 +1,4 @@
-use Rattle.std.proofs.Common.{◌≡◌, ◌∙◌, ◌+◌, sym, subst}
+use Rattle.std.proofs.Common.{◌∙◌, ◌+◌, sym, subst}
 use Rattle.ann_dead.specs.Pids.{IsAscending}
 use Rattle.ann_dead.proofs.Sets.{ascending_with}
 use Rattle.ann_dead.proofs.Removals.{Members, members_kept, members_skipped}

@@ -1,4 +1,4 @@
-use Rattle.std.proofs.Common.{◌≡◌, ◌∙◌, sym, length, true, eqb-true, eq-eqb}
+use Rattle.std.proofs.Common.{◌∙◌, sym, length, eqb-true, eq-eqb}
 use Rattle.ann_dead.proofs.Runs.{empty_from_none, none_from_empty}
 use Rattle.ann_dead.proofs.dead.Dead.is_empty.Goals as goal
 

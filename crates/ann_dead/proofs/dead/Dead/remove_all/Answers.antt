@@ -1,4 +1,4 @@
-use Rattle.std.proofs.Common.{◌≡◌, ◌∙◌, ap, sym, subst}
+use Rattle.std.proofs.Common.{◌∙◌, ap, subst}
 use Rattle.ann_dead.specs.Pids.{IsAscending, union_of}
 use Rattle.ann_dead.proofs.Sets.{ascending_union_of}
 use Rattle.ann_dead.proofs.Removals.{run_gone, all_gone}

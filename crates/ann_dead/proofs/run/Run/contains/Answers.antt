@@ -1,4 +1,4 @@
-use Rattle.std.proofs.Common.{◌≡◌, ap, ◌∙◌, sym, subst, ℕ, List}
+use Rattle.std.proofs.Common.{ap, ◌∙◌, sym, subst}
 use Rattle.ann_dead.specs.Pids.{has, IsAscending}
 use Rattle.ann_dead.proofs.Searches.{found}
 use Rattle.ann_dead.proofs.run.Run.contains.Goals as goal
