@@ -41,20 +41,28 @@ ended_in v = v.ended
 abbrev pub times_in : ℕ → Hand → ℕ
 times_in x v = times x v.drawn
 
--- a view with a share knows the limits, one with none has drawn nothing, and no more claimers have ended in a view than it has shares
+-- what holds of each view
 pub record Fits (limits : Limits) (v : Hand) : Type 0 where
+  -- one with a share knows the limits
   pub knows : 0 < v.shares → (v.numbers ≡ limits.numbers) × (v.seats ≡ limits.seats)
+  -- one with none has drawn nothing
   pub idle : v.shares ≡ 0 → v.drawn ≡ []
+  -- no more claimers have ended in it than it has shares
   pub few : v.ended ≤ v.shares
 
--- The views have all shares. What they have drawn is each number below the word and the limit, once. The word has gone past the limit by at most one for each claimer that has ended
+-- the rule: what holds of the word and of all views between any two steps
 pub record Fair {S : Type 0} (limits : Limits) (s : State S Hand) : Type 0 where
   pub one_word : length s.words ≡ 1
+  -- so the word stays far below its type's end
   pub small : (limits.numbers < 2 ^ 32) × (limits.seats < 2 ^ 32)
   pub each : (j : ℕ) (v : Hand) → get_elem? s.views j ≡ some v → Fits limits v
+  -- the shares of all views are those of all seats
   pub whole : total shares_of s.views ≡ limits.seats
+  -- the numbers drawn are those below the word and the limit, each once
   pub once : (x : ℕ) → total (times_in x) s.views ≡ once_below x (min (slice_index s.words 0) limits.numbers)
+  -- the word has gone past the limit at most once for each claimer that has ended
   pub most : slice_index s.words 0 ≤ limits.numbers + total ended_in s.views
+  -- a claimer has ended only where no number was left
   pub past : 0 < total ended_in s.views → limits.numbers ≤ slice_index s.words 0
 
 -- a number that was found below the limit is drawn, and one at the limit or above ends the claimer
