@@ -1,6 +1,6 @@
-use Rattle.std.proofs.Common.{◌≡◌, ◌≤◌, ◌∙◌, ap, subst, arith}
-use Rattle.ann_disk.specs.Image.{IsImage, after_cut}
-use Rattle.ann_disk.specs.File.{LeavesOnly, BeginsAnImage}
+use Rattle.std.proofs.Common.{subst, arith}
+use Rattle.ann_disk.specs.Image.{IsImage}
+use Rattle.ann_disk.specs.File.{BeginsAnImage}
 use Rattle.ann_disk.proofs.Images.{cut_begins}
 use Rattle.ann_disk.proofs.Moments.{started, after_sync}
 use Rattle.ann_disk.proofs.synced.cut_any.Goals as goal

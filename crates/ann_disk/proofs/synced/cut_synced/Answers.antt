@@ -1,6 +1,6 @@
 use Rattle.std.proofs.Common.{◌≡◌, ◌∙◌, ap, subst}
 use Rattle.ann_disk.specs.Image.{IsImage, clean, after_cut}
-use Rattle.ann_disk.specs.File.{LeavesOnly, Cut}
+use Rattle.ann_disk.specs.File.{Cut}
 use Rattle.ann_disk.proofs.Images.{cut_short}
 use Rattle.ann_disk.proofs.Moments.{started, after_sync}
 use Rattle.ann_disk.proofs.synced.cut_synced.Goals as goal

@@ -1,6 +1,6 @@
 use Rattle.std.proofs.Common.{◌≡◌, ◌∙◌, ap, subst, length}
 use Rattle.ann_disk.specs.Image.{IsImage, clean, after_write}
-use Rattle.ann_disk.specs.File.{LeavesOnly, Torn}
+use Rattle.ann_disk.specs.File.{Torn}
 use Rattle.ann_disk.proofs.Images.{torn}
 use Rattle.ann_disk.proofs.Moments.{started, after_sync}
 use Rattle.ann_disk.proofs.synced.write_synced.Goals as goal
