@@ -1,1 +1,4 @@
 pub mod Causes
+pub mod Calls
+pub mod Memory
+pub mod MemoryEye

@@ -1,5 +1,5 @@
 // Sealed bytes by number.
-ghost use Rattle.std.specs.Prelude.{◌≡◌, ◌⊎◌, ◌≤◌, [], ◌++◌, ℕ, List, None, Some, OnOk, OnErr, IfOk, MatchOption, IsErrOf, length};
+ghost use Rattle.std.specs.Prelude.{◌≡◌, ◌⊎◌, ◌≤◌, [], ◌++◌, ℕ, List, None, Some, OnOk, OnErr, IfOk, MatchOption, IsErrOf};
 ghost use Rattle.std.specs.Ordering.{nat_cmp};
 ghost use Rattle.std.specs.FinMap as map;
 ghost use Rattle.std.specs.FinMap.{FinMap};
@@ -62,11 +62,27 @@ pub trait Vault: Drop {
         ensures bytes { Self.Seal.tells → IfOk result (λ seal. Self.Seal.bytes seal ≡ draft_bytes draft) }
         ensures refused { Self.Seal.tells → OnErr result ((held self.new ≡ held self.old) ⊎ (held self.new ≡ map.insert (held self.old) (draft_number draft) (draft_bytes draft))) }
         ensures cause { HasCause (faults self.old) (faults self.new) result };
-}
 
-pub fn scratch<V: Vault, E: crate::Eye<Seal = V::Seal>>(vault: &mut V, eye: &mut E, draft: V::Draft) -> Result<u64, Failed>
-    ensures { V.Seal.tells → IfOk result (λ n. n ≡ length (V.draft_bytes draft)) }
-{
-    let seal = vault.seal(draft)?;
-    eye.length(&seal)
+    /// The seal of a number, or none exactly where the number isn't sealed. A seal that is held keeps its bytes, whatever
+    /// is opened or removed later.
+    fn open(&mut self, number: u64) -> Result<Option<Self::Seal>, Failed>
+        ensures found { Self.Seal.tells → IfOk result (λ found. MatchOption found
+            (map.get (held self.old) number ≡ None)
+            (λ seal. (Self.Seal.number seal ≡ number) × (map.get (held self.old) number ≡ Some (Self.Seal.bytes seal)))) }
+        ensures same { Self.Seal.tells → held self.new ≡ held self.old }
+        ensures cause { HasCause (faults self.old) (faults self.new) result };
+
+    /// Takes the number of a seal away. After a failure it may be there or not.
+    fn remove(&mut self, seal: Self::Seal) -> Result<(), Failed>
+        ensures removed { Self.Seal.tells → OnOk result (held self.new ≡ map.remove (held self.old) (Self.Seal.number seal)) }
+        ensures refused { Self.Seal.tells → OnErr result ((held self.new ≡ held self.old) ⊎ (held self.new ≡ map.remove (held self.old) (Self.Seal.number seal))) }
+        ensures cause { HasCause (faults self.old) (faults self.new) result };
+
+    /// Puts the sealed numbers into a list, in ascending order and in place of what stood there. A refusal leaves the list.
+    fn numbers(&mut self, list: &mut Vec<u64>) -> Result<(), NumbersRefused>
+        ensures numbers { Self.Seal.tells → OnOk result (list.new.items ≡ map.keys (held self.old)) }
+        ensures refused { OnErr result (list.new.items ≡ list.old.items) }
+        ensures same { Self.Seal.tells → held self.new ≡ held self.old }
+        ensures later { faults self.old ≤ faults self.new }
+        ensures cause { IsErrOf result NumbersRefused.Failed → Rose (faults self.old) (faults self.new) };
 }
