@@ -1,0 +1,60 @@
+ghost use Rattle.std.specs.Prelude.{◌≤◌, IsErrOf};
+ghost use Rattle.ann_script.specs.Faults.{Rose};
+ghost use Rattle.ann_script.specs.Reading.{Reads, Tells};
+
+use crate::command::Verbs;
+use crate::draft::Draft;
+use crate::failed::Failed;
+use crate::script::Script;
+use crate::script_refused::ScriptRefused;
+use crate::source::Source;
+use std::alloc::Global;
+
+/// The most bytes of a script.
+pub const LIMIT: usize = 1 << 26;
+
+/// How many bytes are read at once.
+const CHUNK: usize = 8192;
+
+impl Script {
+    /// Reads a script of at most `clients` clients to its end, or up to its first line at fault.
+    ///
+    /// Reads no more than one byte beyond `2^26`. Besides the script's commands it holds the longest line alone.
+    pub fn read<S: Source>(
+        alloc: Global,
+        input: &mut S,
+        verbs: Verbs,
+        clients: u32,
+    ) -> Result<Script, ScriptRefused>
+        // A script, its first line at fault, or a fault of reading, whichever comes first in the input.
+        ensures reads { Reads clients (S.left input.old) (S.left input.new) result }
+        // The same of an input that tells its bytes.
+        ensures tells { Tells clients (S.left input.old) result }
+        // A fault of reading is one that was counted in this call.
+        ensures later { S.faults input.old ≤ S.faults input.new }
+        ensures cause { IsErrOf result ScriptRefused.Failed → Rose (S.faults input.old) (S.faults input.new) }
+    {
+        let Verbs::Once = verbs;
+        let mut draft = Draft::new(alloc, clients);
+        let mut buffer = [0u8; CHUNK];
+        let mut count = 0;
+        while count < LIMIT {
+            let room = CHUNK.min(LIMIT - count);
+            match input.read(&mut buffer[..room]) {
+                Err(Failed) => return Err(ScriptRefused::Failed),
+                Ok(0) => return draft.finish(alloc),
+                Ok(taken) => {
+                    draft.take(alloc, &buffer[..taken])?;
+                    count += taken;
+                }
+            }
+        }
+        match input.read(&mut buffer[..1]) {
+            Err(Failed) => Err(ScriptRefused::Failed),
+            Ok(0) => draft.finish(alloc),
+            Ok(_) => Err(ScriptRefused::Line {
+                number: draft.number(),
+            }),
+        }
+    }
+}
