@@ -1,2 +1,6 @@
 pub mod Appended
+pub mod Behind
+pub mod Digits
+pub mod Names
 pub mod Pieces
+pub mod WordLists

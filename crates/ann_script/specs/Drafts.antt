@@ -1,13 +1,18 @@
 -- A script of which a part was read.
-use Rattle.std.specs.Prelude.{◌≡◌, ◌==◌, ℕ, ◌+◌, ◌≤◌, List, [], ◌∷◌, ◌++◌, length, Bool, false, Option, Some, None, Result, Ok, Err, All}
-use Rattle.ann_script.specs.Script.{Client, Ending, Whole, said, lines, lines_said}
+use Rattle.std.specs.Prelude.{◌≡◌, ℕ, ◌+◌, ◌≤◌, List, [], ◌∷◌, ◌++◌, length, Bool, false, Option, Some, None, MatchOption, Result, Ok, Err, All}
+use Rattle.std.specs.Borrow.{Bor}
+use Rattle.ann_script.specs.Script.{Client, Ending, Whole, is_line_feed, said, lines, lines_said}
 use Rattle.ann_script.specs.declared.draft.Draft.{Draft}
 use Rattle.ann_script.specs.declared.script_refused.ScriptRefused.{ScriptRefused}
 use Rattle.ann_script.specs.declared.script_refused.ScriptRefused.TheVariants.{Line, Failed, Memory}
 
 -- no line feed stands in the text
 abbrev pub IsOneLine : List ℕ → Type 0
-IsOneLine text = All (λ byte. (byte == 10) ≡ false) text
+IsOneLine text = All (λ byte. is_line_feed byte ≡ false) text
+
+-- the line in front of the first line feed, and what stands behind it; none where there is no line feed
+abbrev pub SplitsLine : List ℕ → Option (Bor (List ℕ) × Bor (List ℕ)) → Type 0
+SplitsLine text result = MatchOption result (IsOneLine text) (λ parts. IsOneLine parts.0.now × (text ≡ parts.0.now ++ 10 ∷ parts.1.now))
 
 -- what the rest of the text says behind a draft
 abbrev pub said_from : Draft → Ending → List ℕ → Result (List Client) ℕ

@@ -47,7 +47,7 @@ is_name_byte byte = is_ascii_alphanumeric byte || (byte == 95) || (byte == 45)
 
 -- 1 to 16 letters, digits, `_` or `-`
 abbrev pub is_name : List ℕ → Bool
-is_name word = list_all is_name_byte word && nat_le 1 (length word) && nat_le (length word) 16
+is_name word = nat_le 1 (length word) && nat_le (length word) 16 && list_all is_name_byte word
 
 -- `#` begins the word
 abbrev pub is_comment : List ℕ → Bool

@@ -19,13 +19,13 @@ added room (client ∷ others) name order =
     if bytes_eq client.name name then Some (record client { orders = client.orders ++ order ∷ [] } ∷ others)
     else added (room - 1) others name order >>= λ more. Some (client ∷ more)
 
-abbrev pub inserts_point : Change → Bool
-inserts_point (Insert tag v) = true
-inserts_point (Delete tag) = false
-inserts_point (Replace tag v) = false
+abbrev pub is_insertion : Change → Bool
+is_insertion (Insert tag v) = true
+is_insertion (Delete tag) = false
+is_insertion (Replace tag v) = false
 
 abbrev pub is_insert : Order → Bool
-is_insert (Apply changes batch) = list_any inserts_point changes
+is_insert (Apply changes batch) = list_any is_insertion changes
 is_insert (Find k l v) = false
 
 -- for now an index holds one point at most, so that a second insert is at fault
@@ -61,9 +61,12 @@ lines_said room ending clients number (line ∷ next ∷ others) = elim (said ro
   | Some more ↦ lines_said room ending more (number + 1) (next ∷ others)
 ]
 
+abbrev pub is_line_feed : ℕ → Bool
+is_line_feed byte = byte == 10
+
 -- the parts between line feeds
 abbrev pub lines : List ℕ → List (List ℕ)
-lines text = slice_split (λ byte. byte == 10) text
+lines text = slice_split is_line_feed text
 
 -- what the text of a script says
 abbrev pub text_said : ℕ → Ending → List ℕ → Result (List Client) ℕ

@@ -1,5 +1,6 @@
-ghost use Rattle.std.specs.Prelude.{◌≡◌, ◌==◌, ◌+◌, ◌<◌, ◌^◌, [], ◌∷◌, ◌++◌, length, position};
-ghost use Rattle.ann_script.specs.Drafts.{IsOneLine, Takes, Judges, Finishes};
+ghost use Rattle.std.specs.Prelude.{◌≡◌, ◌+◌, ◌<◌, ◌^◌, [], ◌∷◌, ◌++◌, length, position};
+ghost use Rattle.ann_script.specs.Script.{is_line_feed};
+ghost use Rattle.ann_script.specs.Drafts.{IsOneLine, SplitsLine, Takes, Judges, Finishes};
 
 use crate::parse_refused::ParseRefused;
 use crate::script::Script;
@@ -16,11 +17,19 @@ pub(crate) struct Draft {
     line: Vec<u8>,
 }
 
-/// The length of the line in front, where a line feed ends it.
+/// The place of the first line feed.
 fn line_len(text: &[u8]) -> Option<usize>
-    ensures { result ≡ position (λ byte. byte == 10) text.now }
+    ensures { result ≡ position is_line_feed text.now }
 {
     text.iter().position(|byte| *byte == b'\n')
+}
+
+/// The bytes in front of the first line feed, and those behind it.
+fn split_line(text: &[u8]) -> Option<(&[u8], &[u8])>
+    ensures { SplitsLine text.now result }
+{
+    let end = line_len(text)?;
+    Some((&text[..end], &text[end + 1..]))
 }
 
 impl Draft {
@@ -85,9 +94,9 @@ impl Draft {
         ensures { Takes self.old self.new piece.now result }
     {
         let mut rest = piece;
-        while let Some(end) = line_len(rest) {
-            self.end_line(alloc, &rest[..end])?;
-            rest = &rest[end + 1..];
+        while let Some((line, behind)) = split_line(rest) {
+            self.end_line(alloc, line)?;
+            rest = behind;
         }
         self.line.extend_from_slice(rest)?;
         Ok(())

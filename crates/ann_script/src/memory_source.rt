@@ -1,4 +1,4 @@
-ghost use Rattle.std.specs.Prelude.{◌≡◌, Some, min, ◌+◌, IfOk, List, ℕ, length, ◌∷◌, [], drop};
+ghost use Rattle.std.specs.Prelude.{◌≡◌, ◌++◌, Some, min, IfOk, length, take, drop};
 ghost use Rattle.std.specs.Io.{ReadsAtMost};
 ghost use Rattle.std.specs.Io.KnownBytes.{ReadConsumes};
 ghost use Rattle.ann_script.specs.Faults.{HasCause};
@@ -47,6 +47,16 @@ impl MemorySource {
     }
 }
 
+/// Copies what there is room for, and gives its length.
+fn copy_front(from: &[u8], buf: &mut [u8]) -> usize
+    ensures count { result ≡ min (length buf.old) (length from.now) }
+    ensures bytes { from.now ≡ take result buf.new ++ drop result from.now }
+{
+    let count = buf.len().min(from.len());
+    buf[..count].copy_from_slice(&from[..count]);
+    count
+}
+
 impl Source for MemorySource {
     ghost left = { λ s. Some s.left };
 
@@ -64,9 +74,7 @@ impl Source for MemorySource {
             self.faults = self.faults.saturating_add(1);
             return Err(Failed);
         }
-        let rest = &self.bytes[self.at..];
-        let count = buf.len().min(rest.len());
-        buf[..count].copy_from_slice(&rest[..count]);
+        let count = copy_front(&self.bytes[self.at..], buf);
         self.at += count;
         Ok(count)
     }

@@ -1,7 +1,8 @@
 ghost use Rattle.std.specs.Prelude.{◌≡◌, List, ℕ, [], ◌∷◌};
+ghost use Rattle.std.specs.List.{list_all};
 ghost use Rattle.ann_script.specs.Words.{words};
 ghost use Rattle.ann_script.specs.Order.{order_of, Find};
-ghost use Rattle.ann_script.specs.Grammar.{components, vector, insert, search_of, command, is_name, is_comment, line_of, line_of_words};
+ghost use Rattle.ann_script.specs.Grammar.{components, vector, insert, search_of, command, is_name, is_name_byte, is_comment, line_of};
 ghost use Rattle.ann_script.specs.Parsed.{Parses};
 ghost use Rattle.ann_script.specs.Sayings.{SaysLine};
 
@@ -25,6 +26,7 @@ pub enum Saying<'a> {
 }
 
 /// The components that the words are.
+#[tactic(auto, using(crate::proofs::Behind::behind_steps))]
 fn read_components(alloc: Global, operands: Words<'_>) -> Result<Vec<u8>, ParseRefused>
     ensures { Parses (λ v. v.items) result (components (words operands.entry.rest.now)) }
 {
@@ -105,14 +107,18 @@ fn read_command(alloc: Global, mut text: Words<'_>) -> Result<Command, ParseRefu
     Err(ParseRefused::Fault)
 }
 
+/// Whether each byte of a word may stand in a name.
+fn has_name_bytes(word: &[u8]) -> bool
+    ensures { result ≡ list_all is_name_byte word.now }
+{
+    word.iter().all(|byte| byte.is_ascii_alphanumeric() || *byte == b'_' || *byte == b'-')
+}
+
 /// Whether a word is a name: 1 to 16 letters, digits, `_` or `-`.
 fn names(word: &[u8]) -> bool
     ensures { result ≡ is_name word.now }
 {
-    let fits = word.iter().all(|byte| byte.is_ascii_alphanumeric()
-        || *byte == b'_'
-        || *byte == b'-');
-    fits && 1 <= word.len() && word.len() <= 16
+    1 <= word.len() && word.len() <= 16 && has_name_bytes(word)
 }
 
 /// Whether the word begins a comment.

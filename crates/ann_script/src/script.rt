@@ -1,9 +1,9 @@
 ghost use Rattle.std.specs.Prelude.{◌≡◌, ◌<◌, ◌≤◌, List, [], map, length, max, true, IfSome, IfOk, string_bytes, slice_get, position};
-ghost use Rattle.std.specs.List.{list_any};
+ghost use Rattle.std.specs.List.{list_all, list_any};
 ghost use Rattle.std.specs.Str.{bytes_eq};
-ghost use Rattle.ann_script.specs.Grammar.{is_name};
+ghost use Rattle.ann_script.specs.Grammar.{is_name_byte};
 ghost use Rattle.ann_script.specs.Order.{order_of};
-ghost use Rattle.ann_script.specs.Script.{added, said, is_insert};
+ghost use Rattle.ann_script.specs.Script.{added, said, is_insert, is_insertion};
 ghost use Rattle.ann_script.specs.Parsed.{Becomes};
 ghost use Rattle.ann_script.specs.Parts.{client_of};
 
@@ -42,16 +42,31 @@ impl Model for Script {
     ghost invariant = { λ s. length s.parts.items < 2 ^ 32 };
 }
 
+/// Whether a change inserts a point.
+fn inserts_point(change: &Change) -> bool
+    ensures { result ≡ is_insertion change.now }
+{
+    match change {
+        Change::Insert { .. } => true,
+        Change::Delete { .. } => false,
+        Change::Replace { .. } => false,
+    }
+}
+
+/// Whether a change of these inserts a point.
+fn any_insertion(changes: &[Change]) -> bool
+    ensures { result ≡ list_any is_insertion changes.now }
+{
+    changes.iter().any(|change| inserts_point(change))
+}
+
 /// Whether a command inserts a point.
 fn inserts(command: &Command) -> bool
     ensures { result ≡ is_insert (order_of command.now) }
 {
     match command {
-        Command::Update { changes, .. } => changes
-            .items()
-            .iter()
-            .any(|change| matches!(change, Change::Insert { .. })),
-        Command::Search { .. } => false,
+        Command::Update { changes, batch: _ } => any_insertion(changes.items()),
+        Command::Search { ask: _ } => false,
     }
 }
 
@@ -62,9 +77,10 @@ fn place_of(parts: &[Part], name: &[u8]) -> Option<usize>
     parts.iter().position(|part| part.name.as_bytes() == name)
 }
 
-/// A name of its own, of a word of ASCII bytes.
+/// A name of its own, of a word whose bytes may all stand in a name.
+#[tactic(auto, using(crate::proofs::Names::name_byte_at))]
 fn name_of(alloc: Global, word: &[u8]) -> Result<String, AllocError>
-    requires { is_name word.now ≡ true }
+    requires { list_all is_name_byte word.now ≡ true }
     ensures { IfOk result (λ name. string_bytes name ≡ word.now) }
 {
     let mut name = String::new(alloc);
@@ -74,11 +90,18 @@ fn name_of(alloc: Global, word: &[u8]) -> Result<String, AllocError>
     Ok(name)
 }
 
-/// Whether a command so far inserts a point.
-fn any_inserts(parts: &[Part]) -> bool
-    ensures { result ≡ list_any (λ client. list_any is_insert client.orders) (map client_of parts.now) }
+/// Whether a command of these inserts a point.
+fn any_inserts(commands: &[Command]) -> bool
+    ensures { result ≡ list_any (λ command. is_insert (order_of command)) commands.now }
 {
-    parts.iter().any(|part| part.commands.iter().any(|command| inserts(command)))
+    commands.iter().any(|command| inserts(command))
+}
+
+/// Whether a command so far inserts a point.
+fn has_insert(parts: &[Part]) -> bool
+    ensures { result ≡ list_any (λ part. list_any (λ command. is_insert (order_of command)) part.commands.items) parts.now }
+{
+    parts.iter().any(|part| any_inserts(&part.commands))
 }
 
 /// Adds a command to the client of this name, who is a new one where there is none of the name yet.
@@ -89,7 +112,7 @@ fn add(
     name: &[u8],
     command: Command,
 ) -> Result<(), ParseRefused>
-    requires { is_name name.now ≡ true }
+    requires { list_all is_name_byte name.now ≡ true }
     ensures said { Becomes result (added room (map client_of parts.old.items) name.now (order_of command)) (map client_of parts.new.items) }
     ensures size { length parts.new.items ≤ max (length parts.old.items) room }
 {
@@ -125,7 +148,7 @@ impl Script {
         match read_line(alloc, line)? {
             Saying::Silent => Ok(()),
             Saying::Says { name, command } => {
-                if inserts(&command) && any_inserts(&self.parts) {
+                if inserts(&command) && has_insert(&self.parts) {
                     return Err(ParseRefused::Fault);
                 }
                 add(&mut self.parts, alloc, room, name, command)

@@ -1,4 +1,4 @@
-ghost use Rattle.std.specs.Prelude.{◌≡◌, not};
+ghost use Rattle.std.specs.Prelude.{◌≡◌, ◌<◌, ◌≤◌, ◌∷◌, length, not, position};
 ghost use Rattle.std.specs.List.{position_or_len};
 ghost use Rattle.std.specs.Iterator.{YieldsFirstBy, item_count};
 ghost use Rattle.std.specs.Str.Lines.{strip_carriage_return};
@@ -11,22 +11,52 @@ fn separates(byte: u8) -> bool
     byte == b' ' || byte == b'\t'
 }
 
-/// The length of the word in front, or of the whole text where no blank stands in it.
-fn word_len(text: &[u8]) -> usize
-    ensures { result ≡ position_or_len is_blank text.now }
+/// The place of the first blank.
+fn first_blank(text: &[u8]) -> Option<usize>
+    ensures { result ≡ position is_blank text.now }
 {
-    text.iter()
-        .position(|byte| separates(*byte))
-        .unwrap_or(text.len())
+    text.iter().position(|byte| separates(*byte))
+}
+
+/// The place of the first byte that is no blank.
+fn first_of_word(text: &[u8]) -> Option<usize>
+    ensures { result ≡ position (λ byte. not (is_blank byte)) text.now }
+{
+    text.iter().position(|byte| !separates(*byte))
+}
+
+/// The length of the word in front, or of the whole text where no blank stands in it.
+#[tactic(auto, using(crate::proofs::WordLists::place_or_len))]
+fn word_len(text: &[u8]) -> usize
+    ensures len { result ≡ position_or_len is_blank text.now }
+    ensures bound { result ≤ length text.now }
+{
+    first_blank(text).unwrap_or(text.len())
 }
 
 /// The number of blanks in front.
+#[tactic(auto, using(crate::proofs::WordLists::place_or_len))]
 fn blanks(text: &[u8]) -> usize
-    ensures { result ≡ position_or_len (λ b. not (is_blank b)) text.now }
+    ensures len { result ≡ position_or_len (λ byte. not (is_blank byte)) text.now }
+    ensures bound { result ≤ length text.now }
 {
-    text.iter()
-        .position(|byte| !separates(*byte))
-        .unwrap_or(text.len())
+    first_of_word(text).unwrap_or(text.len())
+}
+
+/// A text without the blanks in front. Where it isn't empty a word stands in front of it then.
+fn without_blanks(text: &[u8]) -> &[u8]
+    ensures words { words result.now ≡ words text.now }
+    ensures front { 0 < length result.now → 0 < position_or_len is_blank result.now }
+{
+    &text[blanks(text)..]
+}
+
+/// The word in front of a text, and what stands behind it.
+fn split_word(text: &[u8]) -> (&[u8], &[u8])
+    requires { 0 < position_or_len is_blank text.now }
+    ensures { words text.now ≡ result.0.now ∷ words result.1.now }
+{
+    text.split_at(word_len(text))
 }
 
 /// A line without the one carriage return at its end, if it has one.
@@ -53,11 +83,11 @@ impl<'a> Iterator for Words<'a> {
     ghost remaining = { item_count (λ s. words s.rest.now) };
 
     fn next(&mut self) -> Option<&'a [u8]> {
-        let text = &self.rest[blanks(self.rest)..];
+        let text = without_blanks(self.rest);
         if text.is_empty() {
             return None;
         }
-        let (word, rest) = text.split_at(word_len(text));
+        let (word, rest) = split_word(text);
         self.rest = rest;
         Some(word)
     }
