@@ -28,7 +28,9 @@ fn line_len(text: &[u8]) -> Option<usize>
 fn split_line(text: &[u8]) -> Option<(&[u8], &[u8])>
     ensures { SplitsLine text.now result }
 {
-    let end = line_len(text)?;
+    let Some(end) = line_len(text) else {
+        return None;
+    };
     Some((&text[..end], &text[end + 1..]))
 }
 
