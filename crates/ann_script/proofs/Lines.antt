@@ -1,36 +1,32 @@
 -- The lines of a text, taken one after another.
-use Rattle.std.proofs.Common.{◌≡◌, ◌≤◌, ◌<◌, ℕ, ◌+◌, List, [], ◌∷◌, ◌++◌, length, refl, sym, ap, subst, ◌∙◌, take, drop, get_or, arith, true, false, cond, Bool, nat_lt, append_assoc}
-use Rattle.std.proofs.lemmas.Grind.{common_steps}
-use Rattle.std.proofs.lemmas.List.Sums.{prefix_len-le-length, fails_before_first, passes_at_first, split_at_first}
+use Rattle.std.proofs.Common.{◌≡◌, ◌≤◌, ◌<◌, ℕ, ◌+◌, List, [], ◌∷◌, ◌++◌, length, refl, sym, ap, subst, ◌∙◌, take, drop, get_or, arith, true, false, cond}
+use Rattle.std.proofs.lemmas.Bool.{eqb-true}
+use Rattle.std.proofs.lemmas.List.{get_or-take, length-take}
+use Rattle.std.proofs.lemmas.List.Sums.{fails_before_first, passes_at_first, split_at_first}
 use Rattle.std.proofs.lemmas.List.Splits.{slice_split_none, slice_split_at}
 use Rattle.std.specs.Prelude.{position, Option, Some, None, Result, Ok, Err}
 use Rattle.std.specs.List.{position_or_len, slice_split, onto_first}
+use Rattle.ann_script.proofs.Places.{found_is_first, none_is_past}
 use Rattle.ann_script.specs.Script.{Client, Ending, is_line_feed, lines, said, lines_said}
 use Rattle.ann_script.specs.Drafts.{IsOneLine}
 
 -- no line feed is found in a text that has none
 pub one_line-from_none : (text : List ℕ) → position is_line_feed text ≡ None → IsOneLine text
-one_line-from_none text none k d inside = fails_before_first is_line_feed text k d (up_to (position_or_len is_line_feed text) (length text) k (prefix_len-le-length _ text) none inside)
-  where
-    up_to : (at len k : ℕ) → at ≤ len → cond (nat_lt at len) (Some at) None ≡ None → k < len → k < at
-    up_to at len k le none inside = grind (arith, common_steps)
-
--- a found line feed is the first
-found_is_first : (text : List ℕ) (end : ℕ) → position is_line_feed text ≡ Some end → (end ≡ position_or_len is_line_feed text) × (position_or_len is_line_feed text < length text)
-found_is_first text end found = found_at (position_or_len is_line_feed text) (length text) end found
-  where
-    found_at : (at len end : ℕ) → cond (nat_lt at len) (Some at) None ≡ Some end → (end ≡ at) × (at < len)
-    found_at at len end found =
-        elim (nat_lt at len) as (λ t. nat_lt at len ≡ t → cond t (Some at) None ≡ Some end → (end ≡ at) × (at < len)) [
-          | true ↦ λ e f. (cc, grind (arith, common_steps))
-          | false ↦ λ e f. absurd (cc)
-        ] refl found
+one_line-from_none text none k d inside = fails_before_first is_line_feed text k d (omega (arith, none_is_past is_line_feed text none))
 
 pub one_line-front : (text : List ℕ) (end : ℕ) → position is_line_feed text ≡ Some end → IsOneLine (take end text)
-one_line-front text end found k d inside = ?
+one_line-front text end found k d inside =
+    let first = found_is_first is_line_feed text end found in
+    let before : k < end = omega (arith, length-take end text) in
+    let early : k < position_or_len is_line_feed text = omega (arith, first.0) in
+    ap is_line_feed (get_or-take end text k d before) ∙ fails_before_first is_line_feed text k d early
 
 pub split_at_found : (text : List ℕ) (end : ℕ) → position is_line_feed text ≡ Some end → text ≡ take end text ++ 10 ∷ drop (end + 1) text
-split_at_found text end found = ?
+split_at_found text end found =
+    let first = found_is_first is_line_feed text end found in
+    let P : ℕ → Type 0 = λ k. text ≡ take k text ++ 10 ∷ drop (k + 1) text in
+    let at = position_or_len is_line_feed text in
+    subst P (sym first.0) (split_at_first is_line_feed text 10 first.1 ∙ ap (λ b. take at text ++ b ∷ drop (at + 1) text) (eqb-true (get_or text at 10) 10 (passes_at_first is_line_feed text 10 first.1)))
 
 pub lines-one : (text : List ℕ) → IsOneLine text → lines text ≡ text ∷ []
 lines-one text one = slice_split_none is_line_feed text one

@@ -1,23 +1,8 @@
 -- The words of a text, taken one after another.
-use Rattle.std.proofs.Common.{◌≡◌, ◌≤◌, ◌<◌, ℕ, ◌+◌, List, [], ◌∷◌, length, refl, sym, ap, subst, ◌∙◌, take, drop, arith, true, false, not, cond, Bool, unwrap_or, nat_lt, zero, suc}
-use Rattle.std.proofs.lemmas.List.Sums.{prefix_len-le-length}
-use Rattle.std.proofs.lemmas.Grind.{common_steps}
-use Rattle.std.specs.Prelude.{position, filter, Option, Some, None}
+use Rattle.std.proofs.Common.{◌≡◌, ◌<◌, ℕ, ◌+◌, List, [], ◌∷◌, length, refl, sym, ap, subst, ◌∙◌, take, drop, arith, true, false, not, cond, Bool, zero, suc}
+use Rattle.std.specs.Prelude.{filter}
 use Rattle.std.specs.List.{position_or_len, slice_split, onto_first}
 use Rattle.ann_script.specs.Words.{is_blank, is_word, words}
-
--- no place below a bound, so that a place up to it is the bound
-none_below : (k n : ℕ) → k ≤ n → nat_lt k n ≡ false → n ≡ k
-none_below k n le no_less = grind (arith, common_steps)
-
--- the place of the first, or the length, is where the first stands or the end
-pub place_or_len : {X : Type 0} (p : X → Bool) (xs : List X) → unwrap_or (position p xs) (length xs) ≡ position_or_len p xs
-place_or_len p xs =
-    let within = prefix_len-le-length (λ x. not (p x)) xs in
-    elim (nat_lt (position_or_len p xs) (length xs)) as (λ t. nat_lt (position_or_len p xs) (length xs) ≡ t → unwrap_or (cond t (Some (position_or_len p xs)) None) (length xs) ≡ position_or_len p xs) [
-      | true ↦ λ e. refl
-      | false ↦ λ e. none_below (position_or_len p xs) (length xs) within e
-    ] refl
 
 -- a blank in front says nothing
 words-blank : (b : ℕ) (bs : List ℕ) → is_blank b ≡ true → words (b ∷ bs) ≡ words bs

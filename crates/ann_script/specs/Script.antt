@@ -32,13 +32,14 @@ is_insert (Find k l v) = false
 abbrev pub is_too_much : List Client → Order → Bool
 is_too_much clients order = is_insert order && list_any (λ client. list_any is_insert client.orders) clients
 
--- the clients with what a line says, or none where it is at fault
+-- the clients with what was said, or none where that is at fault
+abbrev pub line_said : ℕ → List Client → Line → Option (List Client)
+line_said room clients Silent = Some clients
+line_said room clients (Says name order) = if is_too_much clients order then None else added room clients name order
+line_said room clients Bad = None
+
 abbrev pub said : ℕ → List Client → List ℕ → Option (List Client)
-said room clients line = elim (line_of line) [
-  | Silent ↦ Some clients
-  | Says name order ↦ if is_too_much clients order then None else added room clients name order
-  | Bad ↦ None
-]
+said room clients line = line_said room clients (line_of line)
 
 -- how the text of a script ended: as a whole, cut by a fault of reading, or before the first byte past the limit
 pub data Ending : Type 0 where

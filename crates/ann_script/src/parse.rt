@@ -1,4 +1,4 @@
-ghost use Rattle.std.specs.Prelude.{◌≡◌, List, ℕ, [], ◌∷◌};
+ghost use Rattle.std.specs.Prelude.{◌≡◌, true};
 ghost use Rattle.std.specs.List.{list_all};
 ghost use Rattle.ann_script.specs.Words.{words};
 ghost use Rattle.ann_script.specs.Order.{order_of, Find};
@@ -116,7 +116,8 @@ fn has_name_bytes(word: &[u8]) -> bool
 
 /// Whether a word is a name: 1 to 16 letters, digits, `_` or `-`.
 fn names(word: &[u8]) -> bool
-    ensures { result ≡ is_name word.now }
+    ensures value { result ≡ is_name word.now }
+    ensures bytes { result ≡ true → list_all is_name_byte word.now ≡ true }
 {
     1 <= word.len() && word.len() <= 16 && has_name_bytes(word)
 }

@@ -1,9 +1,9 @@
 ghost use Rattle.std.specs.Prelude.{◌≡◌, ◌<◌, ◌≤◌, List, [], map, length, max, true, IfSome, IfOk, string_bytes, slice_get, position};
 ghost use Rattle.std.specs.List.{list_all, list_any};
 ghost use Rattle.std.specs.Str.{bytes_eq};
-ghost use Rattle.ann_script.specs.Grammar.{is_name_byte};
+ghost use Rattle.ann_script.specs.Grammar.{Says, is_name_byte};
 ghost use Rattle.ann_script.specs.Order.{order_of};
-ghost use Rattle.ann_script.specs.Script.{added, said, is_insert, is_insertion};
+ghost use Rattle.ann_script.specs.Script.{added, line_said, said, is_too_much, is_insert, is_insertion};
 ghost use Rattle.ann_script.specs.Parsed.{Becomes};
 ghost use Rattle.ann_script.specs.Parts.{client_of};
 
@@ -104,6 +104,14 @@ fn has_insert(parts: &[Part]) -> bool
     parts.iter().any(|part| any_inserts(&part.commands))
 }
 
+/// Whether a command is one too many: for now an index holds one point at most.
+#[tactic(auto, using(crate::proofs::Clients::insert_steps))]
+fn is_one_too_many(parts: &[Part], command: &Command) -> bool
+    ensures { result ≡ is_too_much (map client_of parts.now) (order_of command.now) }
+{
+    inserts(command) && has_insert(parts)
+}
+
 /// Adds a command to the client of this name, who is a new one where there is none of the name yet.
 fn add(
     parts: &mut Vec<Part>,
@@ -131,6 +139,24 @@ fn add(
     Ok(())
 }
 
+/// Adds a command, unless it is one too many.
+fn say_command(
+    parts: &mut Vec<Part>,
+    alloc: Global,
+    room: u32,
+    name: &[u8],
+    command: Command,
+) -> Result<(), ParseRefused>
+    requires { list_all is_name_byte name.now ≡ true }
+    ensures said { Becomes result (line_said room (map client_of parts.old.items) (Says name.now (order_of command))) (map client_of parts.new.items) }
+    ensures size { length parts.new.items ≤ max (length parts.old.items) room }
+{
+    if is_one_too_many(parts, &command) {
+        return Err(ParseRefused::Fault);
+    }
+    add(parts, alloc, room, name, command)
+}
+
 impl Script {
     /// A script without clients.
     pub(crate) fn new(alloc: Global) -> Script
@@ -145,14 +171,16 @@ impl Script {
     pub(crate) fn say(&mut self, alloc: Global, room: u32, line: &[u8]) -> Result<(), ParseRefused>
         ensures { Becomes result (said room self.old line.now) self.new }
     {
-        match read_line(alloc, line)? {
-            Saying::Silent => Ok(()),
-            Saying::Says { name, command } => {
-                if inserts(&command) && has_insert(&self.parts) {
-                    return Err(ParseRefused::Fault);
-                }
-                add(&mut self.parts, alloc, room, name, command)
-            }
+        match read_line(alloc, line) {
+            Err(refused) => Err(refused),
+            Ok(Saying::Silent) => Ok(()),
+            Ok(Saying::Says { name, command }) => say_command(
+                &mut self.parts,
+                alloc,
+                room,
+                name,
+                command,
+            ),
         }
     }
 

@@ -26,7 +26,7 @@ fn first_of_word(text: &[u8]) -> Option<usize>
 }
 
 /// The length of the word in front, or of the whole text where no blank stands in it.
-#[tactic(auto, using(crate::proofs::WordLists::place_or_len))]
+#[tactic(auto, using(crate::proofs::Places::place_or_len))]
 fn word_len(text: &[u8]) -> usize
     ensures len { result ≡ position_or_len is_blank text.now }
     ensures bound { result ≤ length text.now }
@@ -35,7 +35,7 @@ fn word_len(text: &[u8]) -> usize
 }
 
 /// The number of blanks in front.
-#[tactic(auto, using(crate::proofs::WordLists::place_or_len))]
+#[tactic(auto, using(crate::proofs::Places::place_or_len))]
 fn blanks(text: &[u8]) -> usize
     ensures len { result ≡ position_or_len (λ byte. not (is_blank byte)) text.now }
     ensures bound { result ≤ length text.now }
