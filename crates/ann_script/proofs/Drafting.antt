@@ -45,7 +45,7 @@ takes-refused old new bytes Failed one judged = judged
 takes-refused old new bytes (Memory e) one judged = judged
 
 -- the last line was judged
-finish-one : (draft : Draft) → IsOneLine draft.line.items → lines (draft.line.items ++ []) ≡ (draft.line.items ++ []) ∷ []
+pub finish-one : (draft : Draft) → IsOneLine draft.line.items → lines (draft.line.items ++ []) ≡ (draft.line.items ++ []) ∷ []
 finish-one draft one = lines-one (draft.line.items ++ []) (one_line-append draft.line.items [] one (All-nil (λ byte. is_line_feed byte ≡ false)))
 
 pub finished : (draft new : Draft) → IsOneLine draft.line.items → said draft.room draft.script (draft.line.items ++ []) ≡ Some new.script → said_from draft Whole [] ≡ Ok new.script
@@ -66,12 +66,12 @@ pub record Taking (first now : Draft) (piece rest : List ℕ) : Type 0 where
 -- a line of the rest was taken
 pub taking-more : (first now next : Draft) (piece rest line behind : List ℕ) → Taking first now piece rest → rest ≡ line ++ 10 ∷ behind → Continues now next (line ++ 10 ∷ []) → Taking first next piece behind
 taking-more first now next piece rest line behind taking parts continues = record {
-    same = λ ending more.
+  same = λ ending more.
       taking.same ending more ∙ ap (λ t. said_from now ending (t ++ more)) parts ∙ ap (said_from now ending) (grouped line behind more) ∙ continues.same ending (behind ++ more);
-    one_line = continues.one_line;
-    room = continues.room ∙ taking.room;
-    number = omega (arith, taking.number, continues.number, ap length parts, length-append line (10 ∷ behind), length-append line (10 ∷ []));
-  }
+  one_line = continues.one_line;
+  room = continues.room ∙ taking.room;
+  number = omega (arith, taking.number, continues.number, ap length parts, length-append line (10 ∷ behind), length-append line (10 ∷ []));
+}
   where
     grouped : (line behind more : List ℕ) → (line ++ 10 ∷ behind) ++ more ≡ (line ++ 10 ∷ []) ++ (behind ++ more)
     grouped line behind more = simp append_assoc
@@ -89,11 +89,11 @@ taking-bad first now next piece rest line behind (Memory e) taking parts bad = b
 -- what is left of a piece is a part of a line
 pub taking-all : (first now next : Draft) (piece rest : List ℕ) → Taking first now piece rest → IsOneLine rest → next.script ≡ now.script → next.room ≡ now.room → next.number ≡ now.number → next.line.items ≡ now.line.items ++ rest → Continues first next piece
 taking-all first now next piece rest taking one script room number line = record {
-    same = λ ending more. taking.same ending more ∙ ap (λ t. lines_said now.room ending now.script now.number (lines t)) (sym (append_assoc now.line.items rest more)) ∙ same_place ending more;
-    one_line = subst IsOneLine (sym line) (one_line-append now.line.items rest taking.one_line one);
-    room = room ∙ taking.room;
-    number = omega (arith, taking.number, number);
-  }
+  same = λ ending more. taking.same ending more ∙ ap (λ t. lines_said now.room ending now.script now.number (lines t)) (sym (append_assoc now.line.items rest more)) ∙ same_place ending more;
+  one_line = subst IsOneLine (sym line) (one_line-append now.line.items rest taking.one_line one);
+  room = room ∙ taking.room;
+  number = omega (arith, taking.number, number);
+}
   where
     same_place : (ending : Ending) (more : List ℕ) → lines_said now.room ending now.script now.number (lines ((now.line.items ++ rest) ++ more)) ≡ said_from next ending more
     same_place ending more =

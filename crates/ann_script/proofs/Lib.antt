@@ -3,6 +3,7 @@ pub mod Behind
 pub mod Clients
 pub mod Digits
 pub mod Drafting
+pub mod Inputs
 pub mod Lines
 pub mod Names
 pub mod Pieces

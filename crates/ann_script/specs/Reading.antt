@@ -1,6 +1,6 @@
 -- What reading a script did to its input, and what it gave.
-use Rattle.std.specs.Prelude.{◌≡◌, ℕ, ◌≤◌, ◌⊎◌, List, ◌++◌, length, Option, IfSome, Result, Ok, Err}
-use Rattle.std.specs.Io.KnownBytes.{Consumes, IsAtEnd}
+use Rattle.std.specs.Prelude.{◌≡◌, ℕ, ◌≤◌, ◌⊎◌, List, ◌++◌, length, take, Option, IfSome, MatchResult, Result, Ok, Err}
+use Rattle.std.specs.Io.KnownBytes.{Consumes, Keeps, IsAtEnd}
 use Rattle.ann_script.specs.Script.{Client, Cut, script_of, text_said, limit}
 use Rattle.ann_script.specs.declared.script_refused.ScriptRefused.{ScriptRefused}
 use Rattle.ann_script.specs.declared.script_refused.ScriptRefused.TheVariants.{Line, Failed, Memory}
@@ -25,6 +25,10 @@ pub record IsCut (room : ℕ) (left left' : Option (List ℕ)) : Type 0 where
   pub short : length bytes ≤ limit
   pub clients : List Client
   pub says : text_said room Cut bytes ≡ Ok clients
+
+-- the bytes that were read are the first in a buffer; there are none only at the input's end
+abbrev pub ReadsChunk : {E : Type 0} → Option (List ℕ) → Option (List ℕ) → List ℕ → Result ℕ E → Type 0
+ReadsChunk left left' buffer result = MatchResult result (λ n. Consumes left left' (take n buffer) × (n ≡ 0 → IsAtEnd left')) (λ _. Keeps left left')
 
 -- a script, the first line at fault, or a fault of reading, whichever comes first in the input; want of memory is free
 abbrev pub Reads : ℕ → Option (List ℕ) → Option (List ℕ) → Result (List Client) ScriptRefused → Type 0
