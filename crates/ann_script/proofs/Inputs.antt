@@ -90,6 +90,7 @@ pub reading-bad : (room : ℕ) (a b c : Option (List ℕ)) (draft next : Draft) 
 reading-bad room a b c draft next count piece (Line number) reading more short bad = record {
   bytes = reading.bytes ++ piece;
   read = consumes-more a b c reading.bytes piece reading.read more;
+  short = omega (arith, length-append reading.bytes piece, reading.long);
   at_fault = inr (always_bad room (reading.bytes ++ piece) number (omega (arith, length-append reading.bytes piece, reading.long)) (λ ending rest. ap (text_said room ending) (append_assoc reading.bytes piece rest) ∙ reading.same ending (piece ++ rest) ∙ bad ending rest));
 }
 reading-bad room a b c draft next count piece Failed reading more short bad = absurd bad
@@ -108,7 +109,7 @@ reading-end room a b c draft count result reading more ended short finishes =
 
     cases : (result : Result (List Client) ScriptRefused) → Finishes draft result → Reads room a c result
     cases (Ok script) finishes = record { bytes = reading.bytes; read = all; at_end = ended; says = says ∙ finishes }
-    cases (Err (Line number)) finishes = record { bytes = reading.bytes; read = all; at_fault = inl (ended, says ∙ finishes) }
+    cases (Err (Line number)) finishes = record { bytes = reading.bytes; read = all; short = omega (arith, reading.long); at_fault = inl (ended, says ∙ finishes) }
     cases (Err Failed) finishes = absurd finishes
     cases (Err (Memory e)) finishes = tt
 
@@ -123,10 +124,11 @@ reading-cut room a b c draft count reading kept short = record {
 }
 
 -- the byte past the limit was read
-pub reading-long : (room : ℕ) (a b c : Option (List ℕ)) (draft : Draft) (count : ℕ) (piece : List ℕ) → Reading room a b draft count → Consumes b c piece → count ≡ limit → 0 < length piece → FindsFault room a c draft.number
-reading-long room a b c draft count piece reading more full some = record {
+pub reading-long : (room : ℕ) (a b c : Option (List ℕ)) (draft : Draft) (count : ℕ) (piece : List ℕ) → Reading room a b draft count → Consumes b c piece → count ≡ limit → 0 < length piece → length piece ≤ 1 → FindsFault room a c draft.number
+reading-long room a b c draft count piece reading more full some one = record {
   bytes = reading.bytes ++ piece;
   read = consumes-more a b c reading.bytes piece reading.read more;
+  short = omega (arith, length-append reading.bytes piece, reading.long, full, one);
   at_fault = inr (λ rest.
       beyond room ((reading.bytes ++ piece) ++ rest) (omega (arith, length-append (reading.bytes ++ piece) rest, length-append reading.bytes piece, reading.long, full, some)) ∙ ap (text_said room Long) (front rest) ∙ reading.same Long [] ∙ ap (lines_said draft.room Long draft.script draft.number) (finish-one draft reading.one_line));
 }

@@ -1,5 +1,5 @@
 -- What reading a script did to its input, and what it gave.
-use Rattle.std.specs.Prelude.{◌≡◌, ℕ, ◌≤◌, ◌⊎◌, List, ◌++◌, length, take, Option, IfSome, MatchResult, Result, Ok, Err}
+use Rattle.std.specs.Prelude.{◌≡◌, ℕ, ◌+◌, ◌≤◌, ◌⊎◌, List, ◌++◌, length, take, Option, IfSome, MatchResult, Result, Ok, Err}
 use Rattle.std.specs.Io.KnownBytes.{Consumes, Keeps, IsAtEnd}
 use Rattle.ann_script.specs.Script.{Client, Cut, script_of, text_said, limit}
 use Rattle.ann_script.specs.declared.script_refused.ScriptRefused.{ScriptRefused}
@@ -16,6 +16,7 @@ pub record ReadsAll (room : ℕ) (left left' : Option (List ℕ)) (script : List
 pub record FindsFault (room : ℕ) (left left' : Option (List ℕ)) (number : ℕ) : Type 0 where
   pub bytes : List ℕ
   pub read : Consumes left left' bytes
+  pub short : length bytes ≤ limit + 1
   pub at_fault : (IsAtEnd left' × (script_of room bytes ≡ Err number)) ⊎ ((rest : List ℕ) → script_of room (bytes ++ rest) ≡ Err number)
 
 -- these bytes were read before a read failed, and no line that is whole in them is at fault

@@ -23,6 +23,8 @@ mod script;
 mod script_refused;
 mod sink;
 mod source;
+#[cfg(test)]
+mod tests;
 mod transcript;
 mod words;
 

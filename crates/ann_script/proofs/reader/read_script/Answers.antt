@@ -36,4 +36,5 @@ pub returns-in-Ok-read_chunk-clause-reads : goal.returns-in-Ok-read_chunk-clause
 returns-in-Ok-read_chunk-clause-reads g c =
     let full : c.loop-count.count ≡ limit = omega (arith, c.loop-count-test.false, c.loop-count.invariant.short) in
     let some : 0 < length (take c.in-Ok-read_chunk.field-0 c.read_chunk-2.new.buffer) = omega (arith, length-take c.in-Ok-read_chunk.field-0 c.read_chunk-2.new.buffer, c.in-Ok-read_chunk.ensures.held, c.in-Ok-read_chunk.field-0-test) in
-    rw c.number.ensures (reading-long c.args.clients (g.S.Source.left c.args.input.now) (g.S.Source.left c.loop-count.input) (g.S.Source.left c.read_chunk-2.new.input) c.loop-count.draft c.loop-count.count (take c.in-Ok-read_chunk.field-0 c.read_chunk-2.new.buffer) c.loop-count.invariant.reading c.in-Ok-read_chunk.ensures.bytes.0 full some)
+    let one : length (take c.in-Ok-read_chunk.field-0 c.read_chunk-2.new.buffer) ≤ 1 = omega (arith, length-take c.in-Ok-read_chunk.field-0 c.read_chunk-2.new.buffer, c.in-Ok-read_chunk.ensures.bound) in
+    rw c.number.ensures (reading-long c.args.clients (g.S.Source.left c.args.input.now) (g.S.Source.left c.loop-count.input) (g.S.Source.left c.read_chunk-2.new.input) c.loop-count.draft c.loop-count.count (take c.in-Ok-read_chunk.field-0 c.read_chunk-2.new.buffer) c.loop-count.invariant.reading c.in-Ok-read_chunk.ensures.bytes.0 full some one)
