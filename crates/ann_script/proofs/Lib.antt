@@ -1,0 +1,11 @@
+pub mod Appended
+pub mod Behind
+pub mod Clients
+pub mod Digits
+pub mod Drafting
+pub mod Inputs
+pub mod Lines
+pub mod Names
+pub mod Pieces
+pub mod Places
+pub mod WordLists

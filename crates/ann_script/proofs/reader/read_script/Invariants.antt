@@ -1,0 +1,15 @@
+use Rattle.std.proofs.Common.{◌≤◌, ◌-◌}
+use Rattle.ann_script.specs.Script.{limit}
+use Rattle.ann_script.proofs.Inputs.{Reading}
+use Rattle.ann_script.proofs.reader.read_script.Given as goal
+
+-- what was read stands in the draft, and no count fell
+abbrev pub invariant-loop-count : goal.invariant-loop-count
+invariant-loop-count g l = record {
+  reading : Reading l.clients (g.S.Source.left l.fn.input) (g.S.Source.left l.input) l.draft l.count;
+  short : l.count ≤ limit;
+  later : g.S.Source.faults l.fn.input ≤ g.S.Source.faults l.input;
+}
+
+abbrev pub decreases-loop-count : goal.decreases-loop-count
+decreases-loop-count g l = limit - l.count

@@ -1,0 +1,70 @@
+-- The grammar of a line of a script.
+use Rattle.std.specs.Prelude.{ℕ, ◌-◌, ◌^◌, ◌==◌, ◌||◌, ◌&&◌, nat_le, Bool, true, false, List, [], ◌∷◌, length, Option, None, Some, codes, if◌then◌else◌}
+use Rattle.std.specs.List.{list_all}
+use Rattle.std.specs.Char.{is_ascii_alphanumeric}
+use Rattle.std.specs.Str.{bytes_eq}
+use Rattle.std.specs.Str.Lines.{strip_carriage_return}
+use Rattle.ann_types.specs.declared.change.Change.{Change}
+use Rattle.ann_types.specs.declared.change.Change.TheVariants.{Insert}
+use Rattle.ann_script.specs.Order.{Order, Apply, Find}
+use Rattle.ann_script.specs.Words.{words, number_of}
+
+infixl 10 ◌>>=◌
+-- a step, and then one that takes what it gave
+abbrev pub ◌>>=◌ : {A B : Type 0} → Option A → (A → Option B) → Option B
+None >>= f = None
+(Some x) >>= f = f x
+
+-- each word is a component
+abbrev pub components : List (List ℕ) → Option (List ℕ)
+components [] = Some []
+components (word ∷ rest) = number_of 255 word >>= λ c. components rest >>= λ cs. Some (c ∷ cs)
+
+-- 1 to 1024 components of 0 to 255
+abbrev pub vector : List (List ℕ) → Option (List ℕ)
+vector operands = components operands >>= λ cs. if nat_le 1 (length cs) && nat_le (length cs) 1024 then Some cs else None
+
+-- `insert TAG C C ..`
+abbrev pub insert : List (List ℕ) → Option Change
+insert [] = None
+insert (tag ∷ rest) = number_of (2 ^ 64 - 1) tag >>= λ t. vector rest >>= λ v. Some (Insert t v)
+
+-- `search K L C C ..`, with 1 <= K <= L <= 1000
+abbrev pub search_of : List (List ℕ) → Option Order
+search_of [] = None
+search_of (k ∷ []) = None
+search_of (k ∷ l ∷ rest) = number_of 1000 k >>= λ wanted. number_of 1000 l >>= λ width. vector rest >>= λ v. if nat_le 1 wanted && nat_le wanted width then Some (Find wanted width v) else None
+
+-- a verb and its operands
+abbrev pub command : List (List ℕ) → Option Order
+command [] = None
+command (verb ∷ operands) =
+    if bytes_eq verb (codes "insert") then (insert operands >>= λ change. Some (Apply (change ∷ []) false))
+    else (if bytes_eq verb (codes "search") then search_of operands else None)
+
+abbrev pub is_name_byte : ℕ → Bool
+is_name_byte byte = is_ascii_alphanumeric byte || (byte == 95) || (byte == 45)
+
+-- 1 to 16 letters, digits, `_` or `-`
+abbrev pub is_name : List ℕ → Bool
+is_name word = nat_le 1 (length word) && nat_le (length word) 16 && list_all is_name_byte word
+
+-- `#` begins the word
+abbrev pub is_comment : List ℕ → Bool
+is_comment [] = false
+is_comment (byte ∷ bytes) = byte == 35
+
+-- what a line says: nothing, or a client's command, or it is at fault
+pub data Line : Type 0 where
+  Silent : Line
+  Says : List ℕ → Order → Line
+  Bad : Line
+
+abbrev pub line_of_words : List (List ℕ) → Line
+line_of_words [] = Silent
+line_of_words (word ∷ rest) =
+    if is_comment word then Silent
+    else (if is_name word then elim (command rest) [ None ↦ Bad | Some order ↦ Says word order ] else Bad)
+
+abbrev pub line_of : List ℕ → Line
+line_of line = line_of_words (words (strip_carriage_return line))

@@ -1,0 +1,13 @@
+pub mod Drafts
+pub mod Faults
+pub mod Grammar
+pub mod Memory
+pub mod Order
+pub mod Outputs
+pub mod Parsed
+pub mod Parts
+pub mod Reading
+pub mod Sayings
+pub mod Script
+pub mod Transcript
+pub mod Words

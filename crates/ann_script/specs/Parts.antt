@@ -1,0 +1,9 @@
+-- What the parts of a script in memory, and what parsing a line gives.
+use Rattle.std.specs.Prelude.{◌≡◌, List, Option, Some, None, Result, Ok, Err, map, string_bytes}
+use Rattle.ann_script.specs.Order.{Order, order_of}
+use Rattle.ann_script.specs.Script.{Client}
+use Rattle.ann_script.specs.declared.script.Part.{Part}
+
+-- the client that a part of a script stands for
+abbrev pub client_of : Part → Client
+client_of part = record { name = string_bytes part.name; orders = map order_of part.commands.items }

@@ -1,0 +1,81 @@
+-- What a script says: its clients with their commands, or its first line at fault.
+use Rattle.std.specs.Prelude.{◌≡◌, ℕ, ◌+◌, ◌-◌, ◌^◌, ◌==◌, ◌&&◌, ◌≤◌, nat_le, nat_lt, Bool, true, false, List, [], ◌∷◌, ◌++◌, length, take, map, Option, None, Some, Result, Ok, Err, if◌then◌else◌}
+use Rattle.std.specs.List.{slice_split, list_any}
+use Rattle.std.specs.Str.{bytes_eq}
+use Rattle.ann_types.specs.declared.change.Change.{Change}
+use Rattle.ann_types.specs.declared.change.Change.TheVariants.{Insert, Delete, Replace}
+use Rattle.ann_script.specs.Order.{Order, Apply, Find}
+use Rattle.ann_script.specs.Grammar.{Line, Silent, Says, Bad, line_of, ◌>>=◌}
+
+-- a client's name and its commands, in order
+pub record Client : Type 0 where
+  pub name : List ℕ
+  pub orders : List Order
+
+-- a command of the client of this name is added, where there may be so many clients
+abbrev pub added : ℕ → List Client → List ℕ → Order → Option (List Client)
+added room [] name order = if nat_lt 0 room then Some (record { name = name; orders = order ∷ [] } ∷ []) else None
+added room (client ∷ others) name order =
+    if bytes_eq client.name name then Some (record client { orders = client.orders ++ order ∷ [] } ∷ others)
+    else added (room - 1) others name order >>= λ more. Some (client ∷ more)
+
+abbrev pub is_insertion : Change → Bool
+is_insertion (Insert tag v) = true
+is_insertion (Delete tag) = false
+is_insertion (Replace tag v) = false
+
+abbrev pub is_insert : Order → Bool
+is_insert (Apply changes batch) = list_any is_insertion changes
+is_insert (Find k l v) = false
+
+-- for now an index holds one point at most, so that a second insert is at fault
+abbrev pub is_too_much : List Client → Order → Bool
+is_too_much clients order = is_insert order && list_any (λ client. list_any is_insert client.orders) clients
+
+-- the clients with what was said, or none where that is at fault
+abbrev pub line_said : ℕ → List Client → Line → Option (List Client)
+line_said room clients Silent = Some clients
+line_said room clients (Says name order) = if is_too_much clients order then None else added room clients name order
+line_said room clients Bad = None
+
+abbrev pub said : ℕ → List Client → List ℕ → Option (List Client)
+said room clients line = line_said room clients (line_of line)
+
+-- how the text of a script ended: as a whole, cut by a fault of reading, or before the first byte past the limit
+pub data Ending : Type 0 where
+  Whole : Ending
+  Cut : Ending
+  Long : Ending
+
+-- the last line: a whole text's is judged, a cut one isn't, and one with the first byte past the limit is at fault
+abbrev pub last_said : ℕ → Ending → List Client → ℕ → List ℕ → Result (List Client) ℕ
+last_said room Whole clients number line = elim (said room clients line) [ None ↦ Err number | Some more ↦ Ok more ]
+last_said room Cut clients number line = Ok clients
+last_said room Long clients number line = Err number
+
+-- what lines say, the first of which has this number, or the number of the first line at fault
+abbrev pub lines_said : ℕ → Ending → List Client → ℕ → List (List ℕ) → Result (List Client) ℕ
+lines_said room ending clients number [] = Ok clients
+lines_said room ending clients number (line ∷ []) = last_said room ending clients number line
+lines_said room ending clients number (line ∷ next ∷ others) = elim (said room clients line) [
+  | None ↦ Err number
+  | Some more ↦ lines_said room ending more (number + 1) (next ∷ others)
+]
+
+abbrev pub is_line_feed : ℕ → Bool
+is_line_feed byte = byte == 10
+
+-- the parts between line feeds
+abbrev pub lines : List ℕ → List (List ℕ)
+lines text = slice_split is_line_feed text
+
+-- what the text of a script says
+abbrev pub text_said : ℕ → Ending → List ℕ → Result (List Client) ℕ
+text_said room ending text = lines_said room ending [] 1 (lines text)
+
+abbrev pub limit : ℕ
+limit = 2 ^ 26
+
+-- what an input says as a script of at most `room` clients
+abbrev pub script_of : ℕ → List ℕ → Result (List Client) ℕ
+script_of room input = if nat_le (length input) limit then text_said room Whole input else text_said room Long (take limit input)

@@ -1,0 +1,209 @@
+ghost use Rattle.std.specs.Prelude.{◌≡◌, ◌<◌, ◌≤◌, List, [], map, length, max, true, IfSome, IfOk, string_bytes, slice_get, position};
+ghost use Rattle.std.specs.List.{list_all, list_any};
+ghost use Rattle.std.specs.Str.{bytes_eq};
+ghost use Rattle.ann_script.specs.Grammar.{Says, is_name_byte};
+ghost use Rattle.ann_script.specs.Order.{order_of};
+ghost use Rattle.ann_script.specs.Script.{added, line_said, said, is_too_much, is_insert, is_insertion};
+ghost use Rattle.ann_script.specs.Parsed.{Becomes};
+ghost use Rattle.ann_script.specs.Parts.{client_of};
+
+use crate::command::Command;
+use crate::parse::{Saying, read_line};
+use crate::parse_refused::ParseRefused;
+use ann_types::Change;
+use std::alloc::{AllocError, Global};
+use std::marker::Model;
+
+/// One client's part of a script.
+#[derive(Debug, Drop)]
+pub(crate) struct Part {
+    name: String,
+    commands: Vec<Command>,
+}
+
+/// A script: its clients in order of first naming, each with its commands in order.
+#[derive(Debug, Drop)]
+pub struct Script {
+    parts: Vec<Part>,
+}
+
+impl Model for Script {
+    ghost use Rattle.std.specs.Prelude.{List, map};
+    ghost use Rattle.ann_script.specs.Script.{Client};
+
+    ghost Value = { List Client };
+
+    ghost use Rattle.ann_script.specs.Parts.{client_of};
+
+    ghost view = { λ s. map client_of s.parts.items };
+
+    ghost use Rattle.std.specs.Prelude.{length, ◌<◌, ◌^◌};
+
+    ghost invariant = { λ s. length s.parts.items < 2 ^ 32 };
+}
+
+/// Whether a change inserts a point.
+fn inserts_point(change: &Change) -> bool
+    ensures { result ≡ is_insertion change.now }
+{
+    match change {
+        Change::Insert { .. } => true,
+        Change::Delete { .. } => false,
+        Change::Replace { .. } => false,
+    }
+}
+
+/// Whether a change of these inserts a point.
+fn any_insertion(changes: &[Change]) -> bool
+    ensures { result ≡ list_any is_insertion changes.now }
+{
+    changes.iter().any(|change| inserts_point(change))
+}
+
+/// Whether a command inserts a point.
+fn inserts(command: &Command) -> bool
+    ensures { result ≡ is_insert (order_of command.now) }
+{
+    match command {
+        Command::Update { changes, batch: _ } => any_insertion(changes.items()),
+        Command::Search { ask: _ } => false,
+    }
+}
+
+/// The place of the client of this name.
+fn place_of(parts: &[Part], name: &[u8]) -> Option<usize>
+    ensures { result ≡ position (λ p. bytes_eq (string_bytes p.name) name.now) parts.now }
+{
+    parts.iter().position(|part| part.name.as_bytes() == name)
+}
+
+/// A name of its own, of a word whose bytes may all stand in a name.
+#[tactic(auto, using(crate::proofs::Names::name_byte_at))]
+fn name_of(alloc: Global, word: &[u8]) -> Result<String, AllocError>
+    requires { list_all is_name_byte word.now ≡ true }
+    ensures { IfOk result (λ name. string_bytes name ≡ word.now) }
+{
+    let mut name = String::new(alloc);
+    for byte in word {
+        name.push(char::from(*byte))?;
+    }
+    Ok(name)
+}
+
+/// Whether a command of these inserts a point.
+fn any_inserts(commands: &[Command]) -> bool
+    ensures { result ≡ list_any (λ command. is_insert (order_of command)) commands.now }
+{
+    commands.iter().any(|command| inserts(command))
+}
+
+/// Whether a command so far inserts a point.
+fn has_insert(parts: &[Part]) -> bool
+    ensures { result ≡ list_any (λ part. list_any (λ command. is_insert (order_of command)) part.commands.items) parts.now }
+{
+    parts.iter().any(|part| any_inserts(&part.commands))
+}
+
+/// Whether a command is one too many: for now an index holds one point at most.
+#[tactic(auto, using(crate::proofs::Clients::insert_steps))]
+fn is_one_too_many(parts: &[Part], command: &Command) -> bool
+    ensures { result ≡ is_too_much (map client_of parts.now) (order_of command.now) }
+{
+    inserts(command) && has_insert(parts)
+}
+
+/// Adds a command to the client of this name, who is a new one where there is none of the name yet.
+fn add(
+    parts: &mut Vec<Part>,
+    alloc: Global,
+    room: u32,
+    name: &[u8],
+    command: Command,
+) -> Result<(), ParseRefused>
+    requires { list_all is_name_byte name.now ≡ true }
+    ensures said { Becomes result (added room (map client_of parts.old.items) name.now (order_of command)) (map client_of parts.new.items) }
+    ensures size { length parts.new.items ≤ max (length parts.old.items) room }
+{
+    if let Some(at) = place_of(parts, name) {
+        let part = &mut parts[at];
+        part.commands.push(command)?;
+        return Ok(());
+    }
+    if parts.len() >= room as usize {
+        return Err(ParseRefused::Fault);
+    }
+    let mut commands = Vec::new(alloc);
+    commands.push(command)?;
+    let name = name_of(alloc, name)?;
+    parts.push(Part { name, commands })?;
+    Ok(())
+}
+
+/// Adds a command, unless it is one too many.
+fn say_command(
+    parts: &mut Vec<Part>,
+    alloc: Global,
+    room: u32,
+    name: &[u8],
+    command: Command,
+) -> Result<(), ParseRefused>
+    requires { list_all is_name_byte name.now ≡ true }
+    ensures said { Becomes result (line_said room (map client_of parts.old.items) (Says name.now (order_of command))) (map client_of parts.new.items) }
+    ensures size { length parts.new.items ≤ max (length parts.old.items) room }
+{
+    if is_one_too_many(parts, &command) {
+        return Err(ParseRefused::Fault);
+    }
+    add(parts, alloc, room, name, command)
+}
+
+impl Script {
+    /// A script without clients.
+    pub(crate) fn new(alloc: Global) -> Script
+        ensures { result ≡ [] }
+    {
+        Script {
+            parts: Vec::new(alloc),
+        }
+    }
+
+    /// Adds what a line says. `room` is the most clients that the script may have.
+    pub(crate) fn say(&mut self, alloc: Global, room: u32, line: &[u8]) -> Result<(), ParseRefused>
+        ensures { Becomes result (said room self.old line.now) self.new }
+    {
+        match read_line(alloc, line) {
+            Err(refused) => Err(refused),
+            Ok(Saying::Silent) => Ok(()),
+            Ok(Saying::Says { name, command }) => say_command(
+                &mut self.parts,
+                alloc,
+                room,
+                name,
+                command,
+            ),
+        }
+    }
+
+    /// How many clients there are.
+    pub fn clients(&self) -> u32
+        ensures { result ≡ length self.now }
+    {
+        self.parts.len() as u32
+    }
+
+    /// The commands of a client, in order.
+    pub fn commands(&self, client: u32) -> &[Command]
+        requires { client < length self.now }
+        ensures { IfSome (slice_get self.now client) (λ c. map order_of result.now ≡ c.orders) }
+    {
+        &self.parts[client as usize].commands
+    }
+
+    /// The name of a client.
+    pub fn name(&self, client: u32) -> &str
+        requires { client < length self.now }
+        ensures { IfSome (slice_get self.now client) (λ c. result.now ≡ c.name) }
+    {
+        &self.parts[client as usize].name
+    }
+}

@@ -1,0 +1,26 @@
+ghost use Rattle.std.specs.Prelude.{ℕ, List, Option};
+ghost use Rattle.std.specs.Io.{ReadsAtMost};
+ghost use Rattle.std.specs.Io.KnownBytes.{ReadConsumes};
+ghost use Rattle.ann_script.specs.Faults.{HasCause};
+
+use crate::failed::Failed;
+
+/// An input of bytes.
+///
+/// It may tell the bytes that are left; one that doesn't tell claims nothing of them. Its count of faults never
+/// falls, and stays at `2^64 - 1`.
+pub trait Source: Drop {
+    ghost left: { Self → Option (List ℕ) };
+
+    ghost faults: { Self → ℕ };
+
+    /// Reads bytes into the front of the buffer, and gives their number: 0 exactly at the end of the input, where
+    /// the buffer isn't empty.
+    fn read(&mut self, buf: &mut [u8]) -> Result<usize, Failed>
+        // No more than the buffer holds.
+        ensures bound { ReadsAtMost result buf.new }
+        // The bytes are the first of those that are left.
+        ensures bytes { ReadConsumes (left self.old) (left self.new) result buf.new }
+        // A failure is counted.
+        ensures cause { HasCause (faults self.old) (faults self.new) result };
+}
