@@ -1,6 +1,6 @@
 use Rattle.std.proofs.Common.{◌≡◌, ◌<◌, ◌^◌, drop}
 use Rattle.ann_script.specs.Words.{digits_after}
-use Rattle.ann_script.proofs.number.digits.Given as goal
+use Rattle.ann_script.proofs.numbers.digits.Given as goal
 
 -- the digits to come, behind the number so far, are the number
 abbrev pub invariant-loop-digit : goal.invariant-loop-digit
