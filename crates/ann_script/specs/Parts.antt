@@ -1,4 +1,4 @@
--- What the parts of a script in memory, and what parsing a line gives.
+-- The client that a part of a script in memory stands for.
 use Rattle.std.specs.Prelude.{map, string_bytes}
 use Rattle.ann_script.specs.Order.{order_of}
 use Rattle.ann_script.specs.Script.{Client}
