@@ -8,7 +8,7 @@ ghost use Rattle.ann_script.specs.Sayings.{SaysLine};
 
 use crate::change_list::ChangeList;
 use crate::command::Command;
-use crate::number::number;
+use crate::numbers::number;
 use crate::parse_refused::ParseRefused;
 use crate::words::{Words, without_return};
 use ann_types::{Ask, Change, Vector};

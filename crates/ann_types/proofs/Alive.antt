@@ -1,4 +1,5 @@
--- The law of live tags: the points that aren't deleted are exactly those of the live tags, and each stands in one graph.
+-- The law of live tags: the points that aren't deleted are exactly those of the live tags, and each stands
+-- in one graph.
 use Rattle.std.proofs.Common.{◌≡◌, ℕ, ◌+◌, ◌≤◌, ◌<◌, Bool, true, false, cond, eqb, not, List, [], ◌∷◌, ◌++◌, ◌||◌, ◌&&◌, refl, sym, ap, ◌∙◌, subst, arith, map, filter, flat_map, take, drop, length, append_assoc, append-nil, eqb-true, eq-eqb}
 use Rattle.std.specs.Prelude.{Option, Some, None}
 use Rattle.std.specs.List.{AllByRecursion}
@@ -146,7 +147,8 @@ abbrev pub OpenHolds : ℕ → State → Option Begun → Type 0
 OpenHolds next s None = Unit {0}
 OpenHolds next s (Some b) = Holds next s b
 
--- Pids rise through the graphs and are below the next one, the deleted ones too; the points that aren't deleted are the live tags
+-- Pids rise through the graphs and are below the next one, the deleted ones too; the points that aren't
+-- deleted are the live tags
 pub record Good (next : ℕ) (live : Names) (s : State) : Type 0 where
   pub rises : NamesRise (names_of (all_points s))
   pub below : AllByRecursion (λ p. p < next) (pids (names_of (all_points s)))

@@ -1,8 +1,10 @@
--- The laws of lists and of the fold, one entry and many entries at a time: a prefix of a legal list is legal, and a live tag stays live until it is deleted.
+-- The laws of lists and of the fold, one entry and many entries at a time: a prefix of a legal list is
+-- legal, and a live tag stays live until it is deleted.
 use Rattle.std.proofs.Common.{◌≡◌, ℕ, ◌+◌, ◌-◌, Bool, true, false, cond, eqb, not, List, [], ◌∷◌, ◌++◌, ◌&&◌, ◌||◌, refl, sym, ap, ◌∙◌, subst, arith, drop, append_assoc, append-nil, count_by, inl, inr, eqb-true}
-use Rattle.std.specs.List.{list_any, list_all}
+use Rattle.std.specs.List.{list_all}
 use Rattle.std.proofs.lemmas.Bool.{false≢true, and_parts, or_cases, or_left, or_right, both_ways, not-true}
 use Rattle.std.proofs.lemmas.List.{take-append-drop}
+use Rattle.std.proofs.lemmas.List.Folds.{list_any-append}
 use Rattle.std.proofs.lemmas.List.Sums.{sum_by-cons, sum_by_push}
 use Rattle.ann_types.specs.Index.{Index}
 use Rattle.ann_types.specs.Lists.{ListBase, BasedList, bare, upto, with_entries, with_entry, BeginsWith, makes_point, next_pid, Names, names_of, is_live, unmapped, mapped, live_after, live_from, live_of}
@@ -116,14 +118,6 @@ spares tag (Delete by t) = not (eqb t tag)
 spares tag (Begin by) = true
 spares tag (End by segment) = true
 spares tag (Replace by t vector) = true
-
-list_any-append : (p : ℕ × ℕ → Bool) (xs ys : Names) → list_any p (xs ++ ys) ≡ (list_any p xs || list_any p ys)
-list_any-append p [] ys = refl
-list_any-append p (x ∷ xs) ys = ap (λ t. p x || t) (list_any-append p xs ys) ∙ assoc (p x) (list_any p xs) (list_any p ys)
-  where
-    assoc : (a b c : Bool) → (a || (b || c)) ≡ ((a || b) || c)
-    assoc true b c = refl
-    assoc false b c = refl
 
 -- taking out a tag leaves the others
 pub other_unmapped : (live : Names) (t tag : ℕ) → eqb t tag ≡ false → is_live live tag ≡ true → is_live (unmapped live t) tag ≡ true

@@ -123,7 +123,8 @@ near_from_inside points query width (Some e) w n p h =
 pub near_inside : (g : Graph) (query : List ℕ) (width : ℕ) → IsGraph g → Inside (has (pids_of g.points)) (near_to g query width)
 near_inside g query width w = near_from_inside g.points query width g.entry (linked_from_graph g w) (entry_from_graph g w)
 
--- The points that a walk of a graph visits are points of the graph; they differ; they are at most as many; and the walk ends where there is no next point.
+-- The points that a walk of a graph visits are points of the graph; they differ; they are at most as many;
+-- and the walk ends where there is no next point.
 abbrev pub HasEnded : List Point → List ℕ → ℕ → Option ℕ → Type 0
 HasEnded points query width None = Unit {0}
 HasEnded points query width (Some e) = next (ground points query e) width (visited_from points query width (Some e)) ≡ None
@@ -269,7 +270,8 @@ few_of params g w = recursion_from_All (λ (x : Point). length x.links ≤ param
 pub long_of : (params : Params) (g : Graph) → IsGraphOf params g → AreLong params.d g.points
 long_of params g w = recursion_from_All (λ (x : Point). length x.vector ≡ params.d) g.points w.vectors
 
--- `put` leaves a graph of the index, where the point's Pid is above all others and its vector has d components.
+-- `put` leaves a graph of the index, where the point's Pid is above all others and its vector has d
+-- components.
 pub put_graph : (params : Params) (g : Graph) (n tag : ℕ) (vector : List ℕ) → IsGraphOf params g → AllByRecursion (λ p. p < n) (pids_of g.points) → length vector ≡ params.d → IsGraphOf params (put params g n tag vector)
 put_graph params g n tag vector w fresh l =
     let linked : AreLinked g.points = linked_from_graph g w.sound in

@@ -13,3 +13,10 @@ pub mod Alive
 pub mod Graphs
 pub mod Merges
 pub mod States
+pub mod Rounded
+pub mod Tagged
+pub mod Judged
+pub mod Found
+pub mod Renamed
+pub mod Rowed
+pub mod Coded

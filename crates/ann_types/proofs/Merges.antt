@@ -44,7 +44,7 @@ linked_decoded index points w = record {
   linked = subst (λ (all : List ℕ). AllByRecursion (λ x. IsLinked all x.pid x.links) (decoded_points index.book points)) (sym (pids_decoded index points)) (linked_decoded_all index (pids_of points) points w.linked);
 }
 
-entry_decoded : (index : Index) (points : List Point) (o : Option ℕ) → IsEntry points o → IsEntry (decoded_points index.book points) o
+pub entry_decoded : (index : Index) (points : List Point) (o : Option ℕ) → IsEntry points o → IsEntry (decoded_points index.book points) o
 entry_decoded index points None h = ap (decoded_points index.book) h
 entry_decoded index points (Some e) h = ap (λ (t : List ℕ). has t e) (pids_decoded index points) ∙ h
 
@@ -394,7 +394,8 @@ rises_kept q (x ∷ xs) ys (a, r) =
       | false ↦ rises_kept q xs ys r
     ]
 
--- A merge leaves a graph of the index, where the new points stand in order behind those of the long-term graph and their vectors have d components.
+-- A merge leaves a graph of the index, where the new points stand in order behind those of the long-term
+-- graph and their vectors have d components.
 pub merged_graph : (index : Index) (lti : Graph) (new : List NewPoint) (gone : List ℕ) → IsGraphOf index.params lti → Rises (pids_of lti.points ++ new_pids new) → NewLong index.params.d new → IsGraphOf index.params (merged index lti new gone)
 unfolding merged base_of
 merged_graph index lti new gone w r long =

@@ -1,4 +1,5 @@
--- What the operations on graphs do to the tags and Pids of their points: `put` adds one, a merge drops the deleted ones and adds the new ones.
+-- What the operations on graphs do to the tags and Pids of their points: `put` adds one, a merge drops the
+-- deleted ones and adds the new ones.
 use Rattle.std.proofs.Common.{◌≡◌, ℕ, Bool, true, false, cond, not, List, [], ◌∷◌, ◌++◌, refl, sym, ap, ◌∙◌, map, flat_map, fold, take, drop, append_assoc, append-nil}
 use Rattle.std.specs.Prelude.{Some}
 use Rattle.std.specs.List.{list_any}

@@ -290,7 +290,8 @@ stood_all far n p [] s r there h = h
 stood_all far n p (y ∷ ys) s r there h =
     stood_placed far n y p s r there (stood_all far n p ys (placed far y s) (rising_placed far y s r) (has_placed far y p s ∙ or_right (eqb p y) (has s p) there) h)
 
--- A point of a list that isn't among its n least never is once further points are there: what has left doesn't return.
+-- A point of a list that isn't among its n least never is once further points are there: what has left
+-- doesn't return.
 pub top_stays : (far : ℕ → ℕ) (n p : ℕ) (xs ys : List ℕ) → has xs p ≡ true → has (top far n (xs ++ ys)) p ≡ true → has (top far n xs) p ≡ true
 top_stays far n p xs ys there h =
     stood_all far n p ys (in_order far xs) (rising_in_order far xs) (has_in_order far p xs ∙ there) (subst (λ (t : List ℕ). has (take n t) p ≡ true) (all_placed-append far [] xs ys) h)

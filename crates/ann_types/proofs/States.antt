@@ -11,7 +11,7 @@ use Rattle.ann_types.specs.Index.{Index}
 use Rattle.ann_types.specs.Merge.{survivors}
 use Rattle.ann_types.specs.Lists.{BasedList, bare, length_of, with_entry, IsBaseOf, next_pid, Names, is_live, pids_at, live_of}
 use Rattle.ann_types.specs.Fold.{Begun, State, all_points, start, frozen, grown, inserted, deleted, opened, begun_at, new_point, new_points, merge_of, switched, step, fold_from, fold_of}
-use Rattle.ann_types.specs.Legal.{last_pid, fits, may_follow, legal_from, is_legal}
+use Rattle.ann_types.specs.Legal.{pid_end, fits, may_follow, legal_from, is_legal}
 use Rattle.ann_types.specs.declared.params.Params.{Params}
 use Rattle.ann_types.specs.declared.new_point.NewPoint.{NewPoint}
 use Rattle.ann_types.specs.declared.entry.Entry.{Entry}
@@ -114,7 +114,7 @@ rw_below next live s w =
 
 insert_graphs : (params : Params) (h : BasedList) (live : Names) (s : State) (tag : ℕ) (vector : List ℕ) → fits params h vector ≡ true → Good (next_pid h) live s → AreGraphs params s → AreGraphs params (inserted params s (next_pid h) tag vector)
 insert_graphs params h live s tag vector f w g =
-    let long : length vector ≡ params.d = eqb-true (length vector) params.d (and_parts (eqb (length vector) params.d) (ltb (next_pid h) last_pid) f).0 in
+    let long : length vector ≡ params.d = eqb-true (length vector) params.d (and_parts (eqb (length vector) params.d) (ltb (next_pid h) pid_end) f).0 in
     grown_graphs params s (put params s.rw (next_pid h) tag vector) g (put_graph params s.rw (next_pid h) tag vector g.rw (rw_below (next_pid h) live s w) long)
 
 step_graphs : (index : Index) (h : BasedList) (s : State) (e : Entry) → may_follow index.params h s e ≡ true → Good (next_pid h) (live_of h) s → AreGraphs index.params s → AreGraphs index.params (step index h s e)
@@ -125,7 +125,7 @@ step_graphs index h s (End by segment) m w g = switched_graphs index.params s (m
 step_graphs index h s (Replace by tag vector) m w g =
     let left : State = deleted s (pids_at (live_of h) tag) in
     let fit : fits index.params h vector ≡ true = (and_parts (fits index.params h vector) (is_live (live_of h) tag) m).0 in
-    let long : length vector ≡ index.params.d = eqb-true (length vector) index.params.d (and_parts (eqb (length vector) index.params.d) (ltb (next_pid h) last_pid) fit).0 in
+    let long : length vector ≡ index.params.d = eqb-true (length vector) index.params.d (and_parts (eqb (length vector) index.params.d) (ltb (next_pid h) pid_end) fit).0 in
     grown_graphs index.params left (put index.params s.rw (next_pid h) tag vector) (deleted_graphs index.params s (pids_at (live_of h) tag) g) (put_graph index.params s.rw (next_pid h) tag vector g.rw (rw_below (next_pid h) (live_of h) s w) long)
 
 fold_graphs : (index : Index) (h : BasedList) (s : State) (es : List Entry) → legal_from index h s es ≡ true → Good (next_pid h) (live_of h) s → AreGraphs index.params s → AreGraphs index.params (fold_from index h s es)

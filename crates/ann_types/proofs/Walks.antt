@@ -1,4 +1,5 @@
--- Lemmas and laws on walks: a visited point isn't visited again, and what has left the least points met never comes back.
+-- Lemmas and laws on walks: a visited point isn't visited again, and what has left the least points met
+-- never comes back.
 use Rattle.std.proofs.Common.{◌≡◌, ℕ, zero, suc, ◌+◌, ◌≤◌, Bool, true, false, cond, eqb, not, List, [], ◌∷◌, ◌++◌, refl, sym, ap, ◌∙◌, subst, arith, take, length, append_assoc, ◌⊎◌, inl, inr, eqb-true, eq-eqb}
 use Rattle.std.specs.Prelude.{Option, Some, None, flat_map, find, filter, option_to_list}
 use Rattle.std.specs.List.{IsDistinct}
@@ -141,7 +142,8 @@ walk_ends g width (suc n) v =
     walk_cases g width n v (λ w. (next g width w ≡ None) ⊎ (length w ≡ length v + suc n)) (λ e. inl e) (λ p e.
     elim (walk_ends g width n (v ++ p ∷ [])) [ inl none ↦ inl none | inr many ↦ inr (let size = length_push v p in omega arith) ])
 
--- A walk in a set of so many points ends where there is no next point: it visits no fewer than a walk with more visits to go.
+-- A walk in a set of so many points ends where there is no next point: it visits no fewer than a walk with
+-- more visits to go.
 pub walk_whole : (g : Ground) (width count : ℕ) (all : List ℕ) → Closed (has all) g → length all ≤ count → next g width (visited_of g width count) ≡ None
 walk_whole g width count all c few =
     let v : List ℕ = visited_of g width count in

@@ -17,14 +17,16 @@ plane = record { d = 2; r = 2; l_build = 4; a = 1; b = 1; w = 1; m = 1; freeze_a
 abbrev pub wide_plane : Params
 wide_plane = record { d = 2; r = 2; l_build = 10; a = 1; b = 1; w = 1; m = 1; freeze_at = 100000; in_limits = record { code_bytes = (lit≤ tt, lit≤ tt); components = (lit≤ tt, lit≤ tt); parts = refl; neighbours = (lit≤ tt, lit≤ tt); width = (lit≤ tt, lit≤ tt); alpha = (lit≤ tt, lit≤ tt, lit≤ tt); beam = (lit≤ tt, lit≤ tt); freeze = (lit≤ tt, lit≤ tt) } }
 
--- vectors of one component, at most two neighbours, alpha 1, a beam of 1: `init 1 2 10 1/1 1 1 100`, and the same that freezes at 2 points
+-- vectors of one component, at most two neighbours, alpha 1, a beam of 1: `init 1 2 10 1/1 1 1 100`, and
+-- the same that freezes at 2 points
 abbrev pub line : Params
 line = record { d = 1; r = 2; l_build = 10; a = 1; b = 1; w = 1; m = 1; freeze_at = 100; in_limits = record { code_bytes = (lit≤ tt, lit≤ tt); components = (lit≤ tt, lit≤ tt); parts = refl; neighbours = (lit≤ tt, lit≤ tt); width = (lit≤ tt, lit≤ tt); alpha = (lit≤ tt, lit≤ tt, lit≤ tt); beam = (lit≤ tt, lit≤ tt); freeze = (lit≤ tt, lit≤ tt) } }
 
 abbrev pub short_line : Params
 short_line = record { d = 1; r = 2; l_build = 10; a = 1; b = 1; w = 1; m = 1; freeze_at = 2; in_limits = record { code_bytes = (lit≤ tt, lit≤ tt); components = (lit≤ tt, lit≤ tt); parts = refl; neighbours = (lit≤ tt, lit≤ tt); width = (lit≤ tt, lit≤ tt); alpha = (lit≤ tt, lit≤ tt, lit≤ tt); beam = (lit≤ tt, lit≤ tt); freeze = (lit≤ tt, lit≤ tt) } }
 
--- the codebook of one part whose centroid i is the byte i, and the one whose centroid i is the byte 16 * floor(i/16)
+-- the codebook of one part whose centroid i is the byte i, and the one whose centroid i is the byte 16 *
+-- floor(i/16)
 unfoldable pub identity : Book
 identity = map (λ i. i ∷ []) (range_with_len 0 256) ∷ []
 

@@ -43,7 +43,8 @@ delete_of_an_absent_tag = refl
 pub insert_of_a_short_vector : judge plane (list []) (Insert 7 (1 ∷ [])) ≡ Some (Dimension 1 2)
 insert_of_a_short_vector = refl
 
--- in an update each change is judged after those before it: a tag that is deleted may be inserted again, and none twice
+-- in an update each change is judged after those before it: a tag that is deleted may be inserted again,
+-- and none twice
 pub update_of_two_changes : judge_all plane one_tag 0 (Delete 7 ∷ Insert 7 (9 ∷ 9 ∷ []) ∷ []) ≡ None
 update_of_two_changes = refl
 

@@ -1,4 +1,5 @@
--- What a search finds (DiskANN, section 3.5, exact distances at the end; FreshDiskANN, section 5.2, all graphs without the deleted points).
+-- What a search finds (DiskANN, section 3.5, exact distances at the end; FreshDiskANN, section 5.2, all
+-- graphs without the deleted points).
 use Rattle.std.specs.Prelude.{ℕ, List, ◌++◌, map, flat_map}
 use Rattle.ann_types.specs.Order.{top}
 use Rattle.ann_types.specs.Graph.{Point, Graph, tag_of, far_from, near_to}
@@ -10,9 +11,13 @@ use Rattle.ann_types.specs.Fold.{State, all_points, fold_of}
 use Rattle.ann_types.specs.declared.ask.Ask.{Ask}
 use Rattle.ann_types.specs.declared.hit.Hit.{Hit}
 
--- the candidates of a search of this width: Near of each graph in memory, and the points that rounds visit in the long-term graph
+-- the candidates of a search of this width: Near of each graph in memory, and the points that rounds visit
+-- in the long-term graph
 abbrev pub found : Index → State → List ℕ → ℕ → List ℕ
-found index s query width = near_to s.rw query width ++ flat_map (λ (g : Graph). near_to g query width) s.ros ++ rounds index.book s.lti query width index.params.w
+found index s query width =
+    near_to s.rw query width
+    ++ flat_map (λ (g : Graph). near_to g query width) s.ros
+    ++ rounds index.book s.lti query width index.params.w
 
 -- a point as the tag and the exact distance that a search tells
 abbrev pub hit : List Point → List ℕ → ℕ → Hit
@@ -20,7 +25,9 @@ hit points query p = record { tag = tag_of points p; distance = far_from points 
 
 -- the first k of the candidates that aren't deleted, by exact distance and Pid
 unfoldable pub hits : Index → State → ℕ → ℕ → List ℕ → List Hit
-hits index s k width query = map (hit (all_points s) query) (top (far_from (all_points s) query) k (without s.dead (found index s query width)))
+hits index s k width query =
+    let points : List Point = all_points s in
+    map (hit points query) (top (far_from points query) k (without s.dead (found index s query width)))
 
 -- Answer(h, ask); it stands at the length of h
 abbrev pub answer : Index → BasedList → Ask → List Hit

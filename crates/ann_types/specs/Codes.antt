@@ -16,14 +16,17 @@ least (n ∷ m ∷ ns) = min n (least (m ∷ ns))
 
 -- the number of the centroid that is nearest to this part of a vector, the lowest on a tie
 abbrev pub nearest : List (List ℕ) → List ℕ → ℕ
-nearest centroids part = let nearest_distance : ℕ = least (map (distance part) centroids) in position_or_len (λ c. distance part c == nearest_distance) centroids
+nearest centroids part =
+    let nearest_distance : ℕ = least (map (distance part) centroids) in
+    position_or_len (λ c. distance part c == nearest_distance) centroids
 
 -- a code of the parts of this width
 abbrev pub code_of_parts : ℕ → Book → List ℕ → List ℕ
 code_of_parts width [] vector = []
 code_of_parts width (centroids ∷ book) vector = nearest centroids (take width vector) ∷ code_of_parts width book (drop width vector)
 
--- code(x): a vector has as many parts of equal width as the codebook, and its code has for each the number of the nearest centroid
+-- code(x): a vector has as many parts of equal width as the codebook, and its code has for each the number
+-- of the nearest centroid
 abbrev pub code : Book → List ℕ → List ℕ
 code book vector = code_of_parts (length vector / length book) book vector
 

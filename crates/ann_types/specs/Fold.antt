@@ -1,4 +1,5 @@
--- What a list of entries leaves: the graphs in memory, the long-term graph and the delete list (FreshDiskANN, section 5.1).
+-- What a list of entries leaves: the graphs in memory, the long-term graph and the delete list
+-- (FreshDiskANN, section 5.1).
 use Rattle.std.specs.Prelude.{ℕ, List, [], ◌∷◌, ◌++◌, ◌==◌, Option, Some, None, not, map, filter, flat_map, take, drop, length, if◌then◌else◌}
 use Rattle.ann_types.specs.Order.{has, ascending}
 use Rattle.ann_types.specs.Graph.{Point, Graph, empty_graph, is_empty}
@@ -11,13 +12,16 @@ use Rattle.ann_types.specs.declared.new_point.NewPoint.{NewPoint}
 use Rattle.ann_types.specs.declared.entry.Entry.{Entry}
 use Rattle.ann_types.specs.declared.entry.Entry.TheVariants.{Insert, Delete, Begin, End, Replace}
 
--- an open Begin: its position, and what its merge takes, the first so many frozen graphs and the deleted points of that moment
+-- an open Begin: its position, and what its merge takes, the first so many frozen graphs and the deleted
+-- points of that moment
 pub record Begun : Type 0 where
   pub position : ℕ
   pub frozen : ℕ
   pub gone : List ℕ
 
--- Fold(h): the graph that takes new points (RW-TempIndex), the frozen graphs in order of age (RO-TempIndexes), the long-term graph (LTI), the deleted points (DeleteList) and the open Begin, if there is one
+-- Fold(h): the graph that takes new points (RW-TempIndex), the frozen graphs in order of age
+-- (RO-TempIndexes), the long-term graph (LTI), the deleted points (DeleteList) and the open Begin, if
+-- there is one
 pub record State : Type 0 where
   pub rw : Graph
   pub ros : List Graph
@@ -52,9 +56,11 @@ inserted params s n tag vector = grown params s (put params s.rw n tag vector)
 abbrev pub deleted : State → List ℕ → State
 deleted s pids = record s { dead = ascending (s.dead ++ pids) }
 
--- a Begin at a position freezes a `rw` that isn't empty, and keeps the number of frozen graphs and the deleted points of that moment
+-- a Begin at a position freezes a `rw` that isn't empty, and keeps the number of frozen graphs and the
+-- deleted points of that moment
 abbrev pub opened : State → ℕ → State
-opened s position = record s { begun = Some (record { position = position; frozen = length s.ros; gone = s.dead }) }
+opened s position =
+    record s { begun = Some (record { position = position; frozen = length s.ros; gone = s.dead }) }
 
 abbrev pub begun_at : State → ℕ → State
 begun_at s position = opened (if is_empty s.rw then s else frozen s s.rw) position
@@ -71,10 +77,12 @@ abbrev pub merge_of : Index → State → Option Begun → Graph
 merge_of index s None = s.lti
 merge_of index s (Some b) = merged index s.lti (new_points s b) b.gone
 
--- an End puts a new long-term graph in the place of the old one; the graphs and the deleted points that its merge took leave
+-- an End puts a new long-term graph in the place of the old one; the graphs and the deleted points that
+-- its merge took leave
 abbrev pub switched : State → Graph → Option Begun → State
 switched s lti None = s
-switched s lti (Some b) = record { rw = s.rw; ros = drop b.frozen s.ros; lti = lti; dead = without b.gone s.dead; begun = None }
+switched s lti (Some b) =
+    record { rw = s.rw; ros = drop b.frozen s.ros; lti = lti; dead = without b.gone s.dead; begun = None }
 
 -- the state after one more entry, from the list before it and that list's state
 abbrev pub step : Index → BasedList → State → Entry → State
@@ -82,7 +90,8 @@ step index h s (Insert by tag vector) = inserted index.params s (next_pid h) tag
 step index h s (Delete by tag) = deleted s (pids_at (live_of h) tag)
 step index h s (Begin by) = begun_at s (length_of h)
 step index h s (End by segment) = switched s (merge_of index s s.begun) s.begun
-step index h s (Replace by tag vector) = inserted index.params (deleted s (pids_at (live_of h) tag)) (next_pid h) tag vector
+step index h s (Replace by tag vector) =
+    inserted index.params (deleted s (pids_at (live_of h) tag)) (next_pid h) tag vector
 
 -- the state after further entries
 abbrev pub fold_from : Index → BasedList → State → List Entry → State

@@ -6,7 +6,8 @@ use Rattle.ann_types.specs.Order.{has}
 use Rattle.ann_types.specs.Walk.{Ground, near, visited_of}
 use Rattle.ann_types.specs.declared.params.Params.{Params}
 
--- a point: its number, the client's name for it, its vector and its set of neighbours (its out-neighbours, Nout)
+-- a point: its number, the client's name for it, its vector and its set of neighbours (its out-neighbours,
+-- Nout)
 pub record Point : Type 0 where
   pub pid : ℕ
   pub tag : ℕ
@@ -44,7 +45,8 @@ abbrev pub tag_of : List Point → ℕ → ℕ
 tag_of [] p = 0
 tag_of (x ∷ xs) p = if x.pid == p then x.tag else tag_of xs p
 
--- what a list of points and an entry must be to be a graph: Pids rise; each point's neighbours are a set of other points; the entry is a point, and is none exactly where there is no point
+-- what a list of points and an entry must be to be a graph: Pids rise; each point's neighbours are a set
+-- of other points; the entry is a point, and is none exactly where there is no point
 pub record IsGraph (graph : Graph) : Type 0 where
   pub pids : IsStrictlyIncreasing (pids_of graph.points)
   pub sets : All (λ x. IsStrictlyIncreasing x.links) graph.points

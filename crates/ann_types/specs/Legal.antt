@@ -8,13 +8,13 @@ use Rattle.ann_types.specs.declared.params.Params.{Params}
 use Rattle.ann_types.specs.declared.entry.Entry.{Entry}
 use Rattle.ann_types.specs.declared.entry.Entry.TheVariants.{Insert, Delete, Begin, End, Replace}
 
--- no point has this Pid or one above it
-abbrev pub last_pid : ℕ
-last_pid = 2 ^ 32 - 1
+-- the first number that is no Pid: every point's Pid is below it
+abbrev pub pid_end : ℕ
+pid_end = 2 ^ 32 - 1
 
 -- an Insert or Replace of a vector has d components and finds a Pid
 abbrev pub fits : Params → BasedList → List ℕ → Bool
-fits params h vector = (length vector == params.d) && nat_lt (next_pid h) last_pid
+fits params h vector = (length vector == params.d) && nat_lt (next_pid h) pid_end
 
 -- there is something to merge
 abbrev pub has_work : State → Bool

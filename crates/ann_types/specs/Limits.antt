@@ -1,7 +1,8 @@
 -- The limits of an index's parameters and of an ask.
 use Rattle.std.specs.Prelude.{◌≡◌, ◌≤◌, ◌%◌, ℕ}
 
--- components, neighbours, building width, alpha a/b, beam width, bytes of a code, points at which a graph freezes
+-- components, neighbours, building width, alpha a/b, beam width, bytes of a code, points at which a graph
+-- freezes
 pub record IsWithinLimits (d r l_build a b w m freeze_at : ℕ) : Type 0 where
   pub code_bytes : (1 ≤ m) × (m ≤ 64)
   pub components : (1 ≤ d) × (d ≤ 1024)

@@ -7,7 +7,8 @@ use Rattle.ann_types.specs.declared.params.Params.{Params}
 use Rattle.ann_types.specs.declared.entry.Entry.{Entry}
 use Rattle.ann_types.specs.declared.entry.Entry.TheVariants.{Insert, Delete, Begin, End, Replace}
 
--- what a list stands on: the position of its first entry, P, the next Pid, N, and the number, S, and the graph of a segment
+-- what a list stands on: the position of its first entry, P, the next Pid, N, and the number, S, and the
+-- graph of a segment
 pub record ListBase : Type 0 where
   pub position : ℕ
   pub next : ℕ
@@ -22,7 +23,8 @@ pub record BasedList : Type 0 where
 abbrev pub empty_base : ListBase
 empty_base = record { position = 0; next = 0; segment = 0; graph = empty_graph }
 
--- what a base of an index must be: its graph has Pids below N and tags that differ, and is empty where there is no segment
+-- what a base of an index must be: its graph has Pids below N and tags that differ, and is empty where
+-- there is no segment
 pub record IsBaseOf (params : Params) (base : ListBase) : Type 0 where
   pub graph : IsGraphOf params base.graph
   pub pids : All (λ x. x.pid < base.next) base.graph.points
@@ -92,7 +94,8 @@ unmapped live tag = filter (λ e. not (e.0 == tag)) live
 abbrev pub mapped : Names → ℕ → ℕ → Names
 mapped live tag pid = unmapped live tag ++ (tag, pid) ∷ []
 
--- the live tags after one more entry, whose point takes the next Pid: Insert and Replace map their tag to it, Delete takes its tag out, Begin and End change nothing
+-- the live tags after one more entry, whose point takes the next Pid: Insert and Replace map their tag to
+-- it, Delete takes its tag out, Begin and End change nothing
 abbrev pub live_after : Names → ℕ → Entry → Names
 live_after live next (Insert by tag vector) = mapped live tag next
 live_after live next (Delete by tag) = unmapped live tag

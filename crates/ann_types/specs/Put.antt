@@ -13,12 +13,15 @@ alone n tag vector = record { pid = n; tag = tag; vector = vector; links = [] }
 abbrev pub linked_back : Rule → (ℕ → ℕ → ℕ) → ℕ → Point → Point
 linked_back rule apart n x = record x { links = within rule apart x.pid (ascending (n ∷ x.links)) }
 
--- Put(G, n, tag, x): n is linked to what it keeps of the points that a walk for x visits, each of them is linked back, and all other points stay; n is the entry of a graph that was empty
+-- Put(G, n, tag, x): n is linked to what it keeps of the points that a walk for x visits, each of them is
+-- linked back, and all other points stay; n is the entry of a graph that was empty
 unfoldable pub put : Params → Graph → ℕ → ℕ → List ℕ → Graph
 put params graph n tag vector =
+    let rule : Rule = rule_of params in
     let apart : ℕ → ℕ → ℕ = apart_in (graph.points ++ alone n tag vector ∷ []) in
-    let out : List ℕ = kept (rule_of params) apart n (visited graph vector params.l_build) in
+    let out : List ℕ = kept rule apart n (visited graph vector params.l_build) in
+    let new : Point = record { pid = n; tag = tag; vector = vector; links = out } in
     record {
       entry = Some (unwrap_or graph.entry n);
-      points = map (λ x. if has out x.pid then linked_back (rule_of params) apart n x else x) graph.points ++ (record { pid = n; tag = tag; vector = vector; links = out }) ∷ [];
+      points = map (λ x. if has out x.pid then linked_back rule apart n x else x) graph.points ++ new ∷ [];
     }

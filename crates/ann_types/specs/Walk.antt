@@ -23,8 +23,12 @@ next g width visited = find (λ p. not (has visited p)) (near g width visited)
 -- the visited points with `Next` appended until there is none, at most n times
 abbrev pub walk_on : Ground → ℕ → ℕ → List ℕ → List ℕ
 walk_on g width zero visited = visited
-walk_on g width (suc n) visited = elim (next g width visited) [ None ↦ visited | Some p ↦ walk_on g width n (visited ++ p ∷ []) ]
+walk_on g width (suc n) visited = elim (next g width visited) [
+  | None ↦ visited
+  | Some p ↦ walk_on g width n (visited ++ p ∷ [])
+]
 
--- Visited: the points that a walk visits in a graph of this many points, in order of visit; they differ, so none is left out
+-- Visited: the points that a walk visits in a graph of this many points, in order of visit; they differ,
+-- so none is left out
 abbrev pub visited_of : Ground → ℕ → ℕ → List ℕ
 visited_of g width count = walk_on g width count []

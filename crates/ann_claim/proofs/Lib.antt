@@ -1,0 +1,4 @@
+pub mod Drawn
+pub mod Totals
+pub mod Steps
+pub mod Claimers

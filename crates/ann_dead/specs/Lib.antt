@@ -1,0 +1,4 @@
+pub mod Pids
+pub mod Digits
+pub mod Run
+pub mod Dead

@@ -1,0 +1,337 @@
+-- A prune over sorted candidates is the prune of their set.
+use Rattle.std.proofs.Common.{◌≡◌, ℕ, zero, suc, ◌+◌, ◌*◌, ◌<◌, ◌≤◌, Bool, true, false, cond, eqb, ltb, not, List, [], ◌∷◌, ◌++◌, ◌||◌, ◌&&◌, refl, sym, ap, subst, ◌∙◌, arith, length, take, drop, map, set, get_or, ◌⊎◌, inl, inr, eqb-true, eq-eqb, ltb-true, ltb-false, le-ltb, le-leb, mul-zero, add-one, ◌^◌}
+use Rattle.std.specs.Prelude.{All, nat_le}
+use Rattle.std.specs.List.{IsDistinct}
+use Rattle.std.specs.Cmp.{nat_eq_equiv}
+use Rattle.std.proofs.lemmas.Map.Keys.{IsDistinct-IsPermutation, IsDistinct-push}
+use Rattle.std.specs.List.Sorted.{IsPermutation, IsNonDecreasingBy}
+use Rattle.std.proofs.lemmas.List.Elements.{All-head, All-tail, All-same, All-push}
+use Rattle.std.proofs.Math.Seq.{take-suc-set, take-suc}
+use Rattle.std.proofs.lemmas.List.{drop_more, length_push}
+use Rattle.std.proofs.lemmas.List.Sorted.{IsNonDecreasingBy-drop, IsPermutation-map, list_any-IsPermutation}
+use Rattle.std.proofs.lemmas.Bool.{false≢true, or_cases, or_right, or_left, eqb-false, cond-false, false_from_ne_true, cases_eq, ne_eqb}
+use Rattle.ann_types.specs.Order.{before, in_order, has, ascending}
+use Rattle.ann_types.specs.Kept.{Rule, covered, takes, keep}
+use Rattle.ann_types.proofs.Ordered.{IsAfter, IsRising, before_from, after_has, has_here, has_later, has_cases, rising_in_order, has_in_order, before-asymmetric, before-irreflexive, before-trans, has_append}
+use Rattle.ann_prune.specs.declared.candidates.Candidate.{Candidate}
+use Rattle.ann_prune.specs.Rows.{row_of, key_of, IsMeasured}
+use Rattle.ann_prune.specs.Newer.{AreSettled, AreSpared}
+
+-- a candidate with the same row changes no row
+pub rows-set : (s : List Candidate) (i : ℕ) (d a : Candidate) → i < length s → a.row ≡ (get_or s i d).row → map row_of (set s i a) ≡ map row_of s
+rows-set [] i d a within same = absurd (omega arith)
+rows-set (x ∷ s) zero d a within same = ap (λ n. n ∷ map row_of s) same
+rows-set (x ∷ s) (suc i) d a within same = ap (λ t. x.row ∷ t) (rows-set s i d a (omega arith) same)
+
+-- one candidate more is measured
+pub measured_more : (P : Candidate → Type 0) (s : List Candidate) (i : ℕ) (a : Candidate) → i < length s → All P (take i s) → P a → All P (take (i + 1) (set s i a))
+measured_more P s i a within so_far here = All-same P (take (i + 1) (set s i a)) (take i s ++ a ∷ []) (ap (λ n. take n (set s i a)) (add-one i) ∙ take-suc-set s i a within) (All-push P (take i s) a so_far here)
+
+-- ---- Two lists that rise and have the same members are the same
+
+head_least : (far : ℕ → ℕ) (x y : ℕ) (xs ys : List ℕ) → IsRising far (x ∷ xs) → IsRising far (y ∷ ys) → has (y ∷ ys) x ≡ true → has (x ∷ xs) y ≡ true → x ≡ y
+head_least far x y xs ys r q h k =
+    elim (has_cases y x ys h) [
+      | inl e ↦ eqb-true x y e
+      | inr m ↦ elim (has_cases x y xs k) [
+        | inl e ↦ sym (eqb-true y x e)
+        | inr n ↦ absurd (false≢true (sym (before-asymmetric far x y (after_has far x y xs r.0 n)) ∙ after_has far y x ys q.0 m))
+      ]
+    ]
+
+not_in_rest : (far : ℕ → ℕ) (x : ℕ) (xs : List ℕ) → IsAfter far x xs → has xs x ≡ true → ⊥
+not_in_rest far x xs a h = false≢true (sym (before-irreflexive far x) ∙ after_has far x x xs a h)
+
+in_rest : (far : ℕ → ℕ) (x z : ℕ) (xs ys : List ℕ) → IsAfter far x xs → ((z : ℕ) → has (x ∷ xs) z ≡ true → has (x ∷ ys) z ≡ true) → has xs z ≡ true → has ys z ≡ true
+in_rest far x z xs ys a same h =
+    elim (has_cases x z ys (same z (has_later x z xs h))) [
+      | inl e ↦ absurd (not_in_rest far x xs a (subst (λ (t : ℕ). has xs t ≡ true) (eqb-true z x e) h))
+      | inr k ↦ k
+    ]
+
+pub rising_unique : (far : ℕ → ℕ) (xs ys : List ℕ) → IsRising far xs → IsRising far ys → ((z : ℕ) → has xs z ≡ true → has ys z ≡ true) → ((z : ℕ) → has ys z ≡ true → has xs z ≡ true) → xs ≡ ys
+rising_unique far [] [] r q to from = refl
+rising_unique far [] (y ∷ ys) r q to from = absurd (false≢true (from y (has_here y y ys (eq-eqb y y refl))))
+rising_unique far (x ∷ xs) [] r q to from = absurd (false≢true (to x (has_here x x xs (eq-eqb x x refl))))
+rising_unique far (x ∷ xs) (y ∷ ys) r q to from =
+    let same : x ≡ y = head_least far x y xs ys r q (to x (has_here x x xs (eq-eqb x x refl))) (from y (has_here y y ys (eq-eqb y y refl))) in
+    let q' : IsAfter far x ys = subst (λ (t : ℕ). IsAfter far t ys) (sym same) q.0 in
+    let to' : (z : ℕ) → has (x ∷ xs) z ≡ true → has (x ∷ ys) z ≡ true = λ z h. subst (λ (t : ℕ). has (t ∷ ys) z ≡ true) (sym same) (to z h) in
+    let from' : (z : ℕ) → has (x ∷ ys) z ≡ true → has (x ∷ xs) z ≡ true = λ z h. from z (subst (λ (t : ℕ). has (t ∷ ys) z ≡ true) same h) in
+    ap (λ t. x ∷ t) (rising_unique far xs ys r.1 q.1 (λ z h. in_rest far x z xs ys r.0 to' h) (λ z h. in_rest far x z ys xs q' from' h)) ∙ ap (λ n. n ∷ ys) same
+
+-- ---- Sorted rows, of which some may stand twice
+
+-- the rows, each once where equal ones stand side by side
+abbrev pub once : List ℕ → List ℕ
+once [] = []
+once (x ∷ []) = x ∷ []
+once (x ∷ y ∷ ys) = cond (eqb x y) (once (y ∷ ys)) (x ∷ once (y ∷ ys))
+
+-- each row stands before the next one, or is it
+abbrev pub AreSorted : (ℕ → ℕ) → List ℕ → Type 0
+AreSorted far [] = Unit {0}
+AreSorted far (x ∷ []) = Unit {0}
+AreSorted far (x ∷ y ∷ ys) = ((before far x y ≡ true) ⊎ (x ≡ y)) × AreSorted far (y ∷ ys)
+
+or_twice : (a b : Bool) → (a || b) ≡ (a || (a || b))
+or_twice true b = refl
+or_twice false b = refl
+
+has_once : (z : ℕ) (xs : List ℕ) → has (once xs) z ≡ has xs z
+has_once z [] = refl
+has_once z (x ∷ []) = refl
+has_once z (x ∷ y ∷ ys) =
+    elim (eqb x y) as (λ t. eqb x y ≡ t → has (cond t (once (y ∷ ys)) (x ∷ once (y ∷ ys))) z ≡ (eqb z x || has (y ∷ ys) z)) [
+      | true ↦ λ e. has_once z (y ∷ ys) ∙ or_twice (eqb z y) (has ys z) ∙ ap (λ n. eqb z n || has (y ∷ ys) z) (sym (eqb-true x y e))
+      | false ↦ λ e. ap (λ t. eqb z x || t) (has_once z (y ∷ ys))
+    ] refl
+
+-- every row stands behind the first, or is it
+sorted_has : (far : ℕ → ℕ) (x z : ℕ) (xs : List ℕ) → AreSorted far (x ∷ xs) → has xs z ≡ true → (before far x z ≡ true) ⊎ (x ≡ z)
+sorted_has far x z [] s h = absurd (false≢true h)
+sorted_has far x z (y ∷ ys) s h =
+    elim (has_cases y z ys h) [
+      | inl e ↦ elim s.0 [ inl b ↦ inl (subst (λ (t : ℕ). before far x t ≡ true) (sym (eqb-true z y e)) b) | inr m ↦ inr (m ∙ sym (eqb-true z y e)) ]
+      | inr k ↦ elim (sorted_has far y z ys s.1 k) [
+        | inl b ↦ elim s.0 [ inl c ↦ inl (before-trans far x y z c b) | inr m ↦ inl (subst (λ (t : ℕ). before far t z ≡ true) (sym m) b) ]
+        | inr m ↦ elim s.0 [ inl c ↦ inl (subst (λ (t : ℕ). before far x t ≡ true) m c) | inr n ↦ inr (n ∙ m) ]
+      ]
+    ]
+
+after_from : (far : ℕ → ℕ) (x : ℕ) (s : List ℕ) → ((z : ℕ) → has s z ≡ true → before far x z ≡ true) → IsAfter far x s
+after_from far x [] h = tt
+after_from far x (y ∷ s) h = (h y (has_here y y s (eq-eqb y y refl)), after_from far x s (λ z k. h z (has_later y z s k)))
+
+once_rises : (far : ℕ → ℕ) (xs : List ℕ) → AreSorted far xs → IsRising far (once xs)
+once_rises far [] s = tt
+once_rises far (x ∷ []) s = (tt, tt)
+once_rises far (x ∷ y ∷ ys) s =
+    elim (eqb x y) as (λ t. eqb x y ≡ t → IsRising far (cond t (once (y ∷ ys)) (x ∷ once (y ∷ ys)))) [
+      | true ↦ λ e. once_rises far (y ∷ ys) s.1
+      | false ↦ λ e.
+          let first : before far x y ≡ true = elim s.0 [ inl b ↦ b | inr m ↦ absurd (eqb-false x y e m) ] in (
+            after_from far x (once (y ∷ ys)) (λ z h.
+                elim (has_cases y z ys (sym (has_once z (y ∷ ys)) ∙ h)) [
+                  | inl k ↦ subst (λ (t : ℕ). before far x t ≡ true) (sym (eqb-true z y k)) first
+                  | inr k ↦ elim (sorted_has far y z ys s.1 k) [ inl b ↦ before-trans far x y z first b | inr m ↦ subst (λ (t : ℕ). before far x t ≡ true) m first ]
+                ]),
+            once_rises far (y ∷ ys) s.1,
+          )
+    ] refl
+
+-- sorted rows, each once, are the set in order
+pub once_in_order : (far : ℕ → ℕ) (xs ys : List ℕ) → AreSorted far xs → ((z : ℕ) → has xs z ≡ has ys z) → once xs ≡ in_order far ys
+once_in_order far xs ys s same =
+    rising_unique far (once xs) (in_order far ys) (once_rises far xs s) (rising_in_order far ys)
+    (λ z h. has_in_order far z ys ∙ sym (same z) ∙ sym (has_once z xs) ∙ h)
+    (λ z h. has_once z xs ∙ same z ∙ sym (has_in_order far z ys) ∙ h)
+
+-- ---- Keeping
+
+zero_covers : (n m k : ℕ) → n ≡ 0 → nat_le (k * n) m ≡ true
+zero_covers n m k e = ap (λ t. nat_le (k * t) m) e ∙ ap (λ t. nat_le t m) (mul-zero k) ∙ le-leb 0 m (omega arith)
+
+covered_push : (rule : Rule) (apart : ℕ → ℕ → ℕ) (p : ℕ) (kept : List ℕ) (c : ℕ) → apart c c ≡ 0 → covered rule apart p (kept ++ c ∷ []) c ≡ true
+covered_push rule apart p [] c e = or_left _ _ (zero_covers (apart c c) (rule.b * rule.b * apart p c) (rule.a * rule.a) e)
+covered_push rule apart p (k ∷ kept) c e = or_right _ _ (covered_push rule apart p kept c e)
+
+and_not_true : (a b : Bool) → b ≡ true → (a && not b) ≡ false
+and_not_true true b e = ap not e
+and_not_true false b e = refl
+
+-- a row that was tried isn't taken again
+twice_taken : (rule : Rule) (apart : ℕ → ℕ → ℕ) (p : ℕ) (kept : List ℕ) (c : ℕ) → apart c c ≡ 0 → takes rule apart p (cond (takes rule apart p kept c) (kept ++ c ∷ []) kept) c ≡ false
+twice_taken rule apart p kept c e =
+    elim (takes rule apart p kept c) as (λ t. takes rule apart p kept c ≡ t → takes rule apart p (cond t (kept ++ c ∷ []) kept) c ≡ false) [
+      | true ↦ λ h. and_not_true _ _ (covered_push rule apart p kept c e)
+      | false ↦ λ h. h
+    ] refl
+
+pub keep_once : (rule : Rule) (apart : ℕ → ℕ → ℕ) (p : ℕ) (kept xs : List ℕ) → ((x : ℕ) → apart x x ≡ 0) → keep rule apart p kept xs ≡ keep rule apart p kept (once xs)
+keep_once rule apart p kept [] near = refl
+keep_once rule apart p kept (x ∷ []) near = refl
+keep_once rule apart p kept (x ∷ y ∷ ys) near =
+    let tried : List ℕ = cond (takes rule apart p kept x) (kept ++ x ∷ []) kept in
+    elim (eqb x y) as (λ t. eqb x y ≡ t → keep rule apart p tried (y ∷ ys) ≡ keep rule apart p kept (cond t (once (y ∷ ys)) (x ∷ once (y ∷ ys)))) [
+      | true ↦ λ e.
+          let same : x ≡ y = eqb-true x y e in
+          let again : takes rule apart p tried y ≡ false = subst (λ (t : ℕ). takes rule apart p tried t ≡ false) same (twice_taken rule apart p kept x (near x)) in
+          ap (λ (t : Bool). keep rule apart p (cond t (tried ++ y ∷ []) tried) ys) again
+          ∙ ap (λ (n : ℕ). keep rule apart p (cond (takes rule apart p kept n) (kept ++ n ∷ []) kept) ys) same
+          ∙ keep_once rule apart p kept (y ∷ ys) near
+      | false ↦ λ e. keep_once rule apart p tried (y ∷ ys) near
+    ] refl
+
+-- the prune of sorted rows is that of their set
+pub keep_sorted : (rule : Rule) (apart : ℕ → ℕ → ℕ) (p : ℕ) (xs ys : List ℕ) → ((x : ℕ) → apart x x ≡ 0) → AreSorted (apart p) xs → ((z : ℕ) → has xs z ≡ has ys z) → keep rule apart p [] xs ≡ keep rule apart p [] (in_order (apart p) ys)
+keep_sorted rule apart p xs ys near s same = keep_once rule apart p [] xs near ∙ ap (keep rule apart p []) (once_in_order (apart p) xs ys s same)
+
+-- a full list takes no more
+pub keep_full : (rule : Rule) (apart : ℕ → ℕ → ℕ) (p : ℕ) (kept cs : List ℕ) → rule.r ≤ length kept → keep rule apart p kept cs ≡ kept
+keep_full rule apart p kept [] full = refl
+keep_full rule apart p kept (c ∷ cs) full =
+    ap (λ (t : Bool). keep rule apart p (cond t (kept ++ c ∷ []) kept) cs) (ap (λ t. t && not (covered rule apart p kept c)) (le-ltb (length kept) rule.r full)) ∙ keep_full rule apart p kept cs full
+
+-- ---- Candidates as they are sorted
+
+precedes : (a b x y : ℕ) → (x ≡ y → ⊥) → y < 2 ^ 32 → a * 4294967296 + x ≤ b * 4294967296 + y → (a < b) ⊎ ((a ≡ b) × (x < y))
+precedes a b x y differ small le =
+    elim (ltb a b) as (λ t. ltb a b ≡ t → (a < b) ⊎ ((a ≡ b) × (x < y))) [
+      | true ↦ λ e. inl (ltb-true a b e)
+      | false ↦ λ e. let no = ltb-false a b e in inr (omega arith, omega arith)
+    ] refl
+
+pub sorted_rows : (far : ℕ → ℕ) (items : List Candidate) → All (IsMeasured far) items → All (λ c. c.row < 2 ^ 32) items → IsNonDecreasingBy key_of items → AreSorted far (map row_of items)
+sorted_rows far [] a b s = tt
+sorted_rows far (x ∷ []) a b s = tt
+sorted_rows far (x ∷ y ∷ ys) a b s =
+    let first : IsMeasured far x = All-head (IsMeasured far) x (y ∷ ys) a in
+    let second : IsMeasured far y = All-head (IsMeasured far) y ys (All-tail (IsMeasured far) x (y ∷ ys) a) in
+    let small : y.row < 2 ^ 32 = All-head (λ c. c.row < 2 ^ 32) y ys (All-tail (λ c. c.row < 2 ^ 32) x (y ∷ ys) b) in
+    let le : key_of x ≤ key_of y = s 0 1 x (omega arith) (omega arith) in
+    let le' : far x.row * 4294967296 + x.row ≤ far y.row * 4294967296 + y.row = subst (λ n. n * 4294967296 + x.row ≤ far y.row * 4294967296 + y.row) first.0 (subst (λ n. x.distance * 4294967296 + x.row ≤ n * 4294967296 + y.row) second.0 le) in (
+      elim (eqb x.row y.row) as (λ t. eqb x.row y.row ≡ t → (before far x.row y.row ≡ true) ⊎ (x.row ≡ y.row)) [
+        | true ↦ λ e. inr (eqb-true x.row y.row e)
+        | false ↦ λ e. inl (before_from far x.row y.row (precedes (far x.row) (far y.row) x.row y.row (eqb-false x.row y.row e) small le'))
+      ] refl,
+      sorted_rows far (y ∷ ys) (All-tail (IsMeasured far) x (y ∷ ys) a) (All-tail (λ c. c.row < 2 ^ 32) x (y ∷ ys) b) (IsNonDecreasingBy-drop key_of 1 (x ∷ y ∷ ys) s),
+    )
+
+-- ---- The loop over sorted candidates
+
+sorted_rest : (far : ℕ → ℕ) (x : ℕ) (xs : List ℕ) → AreSorted far (x ∷ xs) → AreSorted far xs
+sorted_rest far x [] s = tt
+sorted_rest far x (y ∷ ys) s = s.1
+
+has_at : (xs : List ℕ) (i d : ℕ) → i < length xs → has xs (get_or xs i d) ≡ true
+has_at [] i d within = absurd (omega arith)
+has_at (x ∷ xs) zero d within = has_here x x xs (eq-eqb x x refl)
+has_at (x ∷ xs) (suc i) d within = has_later x (get_or xs i d) xs (has_at xs i d (omega arith))
+
+-- each of the rows so far stands before the next one, or is it
+sorted_at : (far : ℕ → ℕ) (xs : List ℕ) (i k d : ℕ) → AreSorted far xs → i < length xs → has (take i xs) k ≡ true → (before far k (get_or xs i d) ≡ true) ⊎ (k ≡ get_or xs i d)
+sorted_at far [] i k d s within h = absurd (omega arith)
+sorted_at far (x ∷ xs) zero k d s within h = absurd (false≢true h)
+sorted_at far (x ∷ xs) (suc i) k d s within h =
+    elim (has_cases x k (take i xs) h) [
+      | inl e ↦ subst (λ (t : ℕ). (before far t (get_or xs i d) ≡ true) ⊎ (t ≡ get_or xs i d)) (sym (eqb-true k x e)) (sorted_has far x (get_or xs i d) xs s (has_at xs i d (omega arith)))
+      | inr m ↦ sorted_at far xs i k d (sorted_rest far x xs s) (omega arith) m
+    ]
+
+has_from_take : (i k : ℕ) (xs : List ℕ) → has (take i xs) k ≡ true → has xs k ≡ true
+has_from_take zero k xs h = absurd (false≢true h)
+has_from_take (suc i) k [] h = absurd (false≢true h)
+has_from_take (suc i) k (x ∷ xs) h = elim (has_cases x k (take i xs) h) [ inl e ↦ has_here x k xs e | inr m ↦ has_later x k xs (has_from_take i k xs m) ]
+
+-- none of the rows that were kept so far leaves out the next one, where both are known
+pub spared_here : (rule : Rule) (apart : ℕ → ℕ → ℕ) (p newer : ℕ) (rows kept : List ℕ) (i d : ℕ) → AreSorted (apart p) rows → AreSettled rule apart p newer rows → i < length rows → ((k : ℕ) → has kept k ≡ true → has (take i rows) k ≡ true) → AreSpared rule apart p newer kept (get_or rows i d)
+spared_here rule apart p newer rows kept i d s w within past = λ j d' l older older' other.
+    let k : ℕ = get_or kept j d' in
+    let there = past k (has_at kept j d' l) in
+    elim (sorted_at (apart p) rows i k d s within there) [
+      | inl b ↦ w.settled k (get_or rows i d) (has_from_take i k rows there) (has_at rows i d within) older older' b
+      | inr e ↦ absurd (other e)
+    ]
+
+pub row_at : (items : List Candidate) (i : ℕ) (d : Candidate) → i < length items → get_or (map row_of items) i (row_of d) ≡ row_of (get_or items i d)
+row_at [] i d within = absurd (omega arith)
+row_at (x ∷ items) zero d within = refl
+row_at (x ∷ items) (suc i) d within = row_at items i d (omega arith)
+
+pub length-rows : (items : List Candidate) → length (map row_of items) ≡ length items
+length-rows [] = refl
+length-rows (x ∷ items) = omega (arith, length-rows items)
+
+-- the rest after one row more
+pub keep_next : (rule : Rule) (apart : ℕ → ℕ → ℕ) (p : ℕ) (rows kept : List ℕ) (i c d : ℕ) → i < length rows → get_or rows i d ≡ c → keep rule apart p (cond (takes rule apart p kept c) (kept ++ c ∷ []) kept) (drop (i + 1) rows) ≡ keep rule apart p kept (drop i rows)
+keep_next rule apart p rows kept i c d within is =
+    sym (ap (keep rule apart p kept) (drop_more rows i d within ∙ ap (λ n. n ∷ drop (i + 1) rows) is))
+
+pub past_next : (rows kept : List ℕ) (i c d : ℕ) (t : Bool) → i < length rows → get_or rows i d ≡ c → ((k : ℕ) → has kept k ≡ true → has (take i rows) k ≡ true) → (k : ℕ) → has (cond t (kept ++ c ∷ []) kept) k ≡ true → has (take (i + 1) rows) k ≡ true
+past_next rows kept i c d t within is past k h =
+    let more : take (i + 1) rows ≡ take i rows ++ c ∷ [] = ap (λ n. take n rows) (add-one i) ∙ take-suc rows i d within ∙ ap (λ n. take i rows ++ n ∷ []) is in
+    subst (λ (s : List ℕ). has s k ≡ true) (sym more) (has_append (take i rows) (c ∷ []) k ∙ elim t as (λ t. has (cond t (kept ++ c ∷ []) kept) k ≡ true → (has (take i rows) k || has (c ∷ []) k) ≡ true) [
+      | true ↦ λ h. elim (or_cases (has kept k) (has (c ∷ []) k) (sym (has_append kept (c ∷ []) k) ∙ h)) [
+        | inl m ↦ or_left (has (take i rows) k) (has (c ∷ []) k) (past k m)
+        | inr m ↦ or_right (has (take i rows) k) (has (c ∷ []) k) m
+      ]
+      | false ↦ λ h. or_left (has (take i rows) k) (has (c ∷ []) k) (past k h)
+    ] h)
+
+pub inside_next : (P : ℕ → Type 0) (kept : List ℕ) (c : ℕ) (t : Bool) → All P kept → P c → All P (cond t (kept ++ c ∷ []) kept)
+inside_next P kept c true a h = All-push P kept c a h
+inside_next P kept c false a h = a
+
+pub few_next : (kept : List ℕ) (c r : ℕ) (t : Bool) → length kept < r → length (cond t (kept ++ c ∷ []) kept) ≤ r
+few_next kept c r true l = omega (arith, length_push kept c)
+few_next kept c r false l = omega arith
+
+-- the rows of sorted candidates are those of the candidates
+pub same_rows : (old new sorted : List Candidate) → map row_of new ≡ map row_of old → IsPermutation new sorted → (z : ℕ) → has (map row_of sorted) z ≡ has (map row_of old) z
+same_rows old new sorted rows moved z = sym (list_any-IsPermutation (eqb z) (map row_of new) (map row_of sorted) (IsPermutation-map row_of new sorted moved)) ∙ ap (λ s. has s z) rows
+
+-- candidates that are known stay so in another order
+pub settled_same : (rule : Rule) (apart : ℕ → ℕ → ℕ) (p newer : ℕ) (xs ys : List ℕ) → ((z : ℕ) → has ys z ≡ has xs z) → AreSettled rule apart p newer xs → AreSettled rule apart p newer ys
+settled_same rule apart p newer xs ys same w = record { settled = λ k c h h'. w.settled k c (sym (same k) ∙ h) (sym (same c) ∙ h') }
+
+-- where no candidate is known
+pub settled_none : (rule : Rule) (apart : ℕ → ℕ → ℕ) (p : ℕ) (xs : List ℕ) → AreSettled rule apart p 0 xs
+settled_none rule apart p xs = record { settled = λ k c h h' older. absurd (omega arith) }
+
+-- ---- Rows in ascending order
+
+eqb_flip : (x y : ℕ) → eqb x y ≡ eqb y x
+eqb_flip x y = elim (cases_eq x y) [ inl e ↦ eq-eqb x y e ∙ sym (eq-eqb y x (sym e)) | inr n ↦ ne_eqb x y n ∙ sym (ne_eqb y x (λ e. n (sym e))) ]
+
+once_distinct : (xs : List ℕ) → IsDistinct eqb xs → once xs ≡ xs
+unfolding IsDistinct
+once_distinct [] d = refl
+once_distinct (x ∷ []) d = refl
+once_distinct (x ∷ y ∷ ys) d = cond-false _ _ _ d.0.0 ∙ ap (λ t. x ∷ t) (once_distinct (y ∷ ys) d.1)
+
+numbers_sorted : (xs : List ℕ) → ((i j d : ℕ) → i ≤ j → j < length xs → get_or xs i d ≤ get_or xs j d) → AreSorted (λ _. 0) xs
+numbers_sorted [] s = tt
+numbers_sorted (x ∷ []) s = tt
+numbers_sorted (x ∷ y ∷ ys) s =
+    let le : x ≤ y = s 0 1 x (omega arith) (omega arith) in (
+      elim (ltb x y) as (λ t. ltb x y ≡ t → (before (λ _. 0) x y ≡ true) ⊎ (x ≡ y)) [
+        | true ↦ λ e. inl (before_from (λ _. 0) x y (inr (refl, ltb-true x y e)))
+        | false ↦ λ e. inr (let ge = ltb-false x y e in omega arith)
+      ] refl,
+      numbers_sorted (y ∷ ys) (λ i j d l within. s (suc i) (suc j) d (omega arith) (omega arith)),
+    )
+
+-- sorted rows that differ are their set
+pub ascending_sorted : (xs ys : List ℕ) → IsPermutation xs ys → IsDistinct eqb xs → ((i j d : ℕ) → i ≤ j → j < length ys → get_or ys i d ≤ get_or ys j d) → ys ≡ ascending xs
+ascending_sorted xs ys moved d s =
+    sym (once_distinct ys (IsDistinct-IsPermutation eqb eqb_flip xs ys moved d))
+    ∙ once_in_order (λ _. 0) ys xs (numbers_sorted ys s) (λ z. sym (list_any-IsPermutation (eqb z) xs ys moved))
+
+keep_distinct_from : (rule : Rule) (apart : ℕ → ℕ → ℕ) (p : ℕ) (far : ℕ → ℕ) (kept cs : List ℕ) → IsDistinct eqb kept → IsRising far cs → ((z : ℕ) → has kept z ≡ true → has cs z ≡ true → ⊥) → IsDistinct eqb (keep rule apart p kept cs)
+keep_distinct_from rule apart p far kept [] d r apart_from = d
+keep_distinct_from rule apart p far kept (c ∷ cs) d r others =
+    elim (takes rule apart p kept c) as (λ t. IsDistinct eqb (keep rule apart p (cond t (kept ++ c ∷ []) kept) cs)) [
+      | true ↦
+          let new : has kept c ≡ false = false_from_ne_true (has kept c) (λ h. others c h (has_here c c cs (eq-eqb c c refl))) in
+          keep_distinct_from rule apart p far (kept ++ c ∷ []) cs (IsDistinct-push nat_eq_equiv kept c d new) r.1 (λ z h k.
+          elim (or_cases (has kept z) (has (c ∷ []) z) (sym (has_append kept (c ∷ []) z) ∙ h)) [
+            | inl m ↦ others z m (has_later c z cs k)
+            | inr m ↦ elim (has_cases c z [] m) [
+              | inl e ↦ not_in_rest far c cs r.0 (subst (λ (t : ℕ). has cs t ≡ true) (eqb-true z c e) k)
+              | inr n ↦ absurd (false≢true n)
+            ]
+          ])
+      | false ↦ keep_distinct_from rule apart p far kept cs d r.1 (λ z h k. others z h (has_later c z cs k))
+    ]
+
+distinct_nil : IsDistinct eqb []
+unfolding IsDistinct
+distinct_nil = tt
+
+-- the kept rows differ
+pub keep_distinct : (rule : Rule) (apart : ℕ → ℕ → ℕ) (p : ℕ) (xs : List ℕ) → IsDistinct eqb (keep rule apart p [] (in_order (apart p) xs))
+keep_distinct rule apart p xs = keep_distinct_from rule apart p (apart p) [] (in_order (apart p) xs) distinct_nil (rising_in_order (apart p) xs) (λ z h. absurd (false≢true h))
+
+pub rows_inside : (size : ℕ) (items : List Candidate) → All (λ row. row < size) (map row_of items) → All (λ (c : Candidate). c.row < size) items
+rows_inside size items a = λ k d l. subst (λ (n : ℕ). n < size) (row_at items k d l) (a k (row_of d) (let m = length-rows items in omega arith))
