@@ -13,6 +13,7 @@ pub mod Alive
 pub mod Graphs
 pub mod Merges
 pub mod States
+pub mod Entered
 pub mod Rounded
 pub mod Tagged
 pub mod Judged
