@@ -1,8 +1,12 @@
 pub mod Distances
 pub mod WorkedIndexes
 pub mod WorkedGraphs
+pub mod WorkedDegrees
+pub mod WorkedCodes
+pub mod WorkedSearches
 pub mod WorkedMerges
 pub mod WorkedLists
+pub mod WorkedRefusals
 pub mod Ordered
 pub mod Walks
 pub mod Sets
