@@ -12,7 +12,7 @@ use Rattle.std.proofs.lemmas.List.Sorted.{IsNonDecreasingBy-drop, IsPermutation-
 use Rattle.std.proofs.lemmas.Bool.{false≢true, or_cases, or_right, or_left, eqb-false, cond-false, false_from_ne_true, cases_eq, ne_eqb}
 use Rattle.ann_types.specs.Order.{before, in_order, has, ascending}
 use Rattle.ann_types.specs.Kept.{Rule, covered, takes, keep}
-use Rattle.ann_types.proofs.Ordered.{IsAfter, IsRising, before_from, after_has, has_here, has_later, has_cases, rising_in_order, has_in_order, before-trans, has_append, not_in_rest, rising_unique}
+use Rattle.ann_types.proofs.Ordered.{IsAfter, IsRising, before_from, has_here, has_later, has_cases, rising_in_order, has_in_order, before-trans, has_append, not_in_rest, rising_unique}
 use Rattle.ann_prune.specs.declared.candidates.Candidate.{Candidate}
 use Rattle.ann_prune.specs.Rows.{row_of, key_of, IsMeasured}
 use Rattle.ann_prune.specs.Newer.{AreSettled, AreSpared}

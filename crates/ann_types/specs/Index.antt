@@ -1,5 +1,5 @@
 -- What an index is made with.
-use Rattle.std.specs.Prelude.{◌≡◌, ◌/◌, List, All, length}
+use Rattle.std.specs.Prelude.{◌≡◌, ◌/◌, All, length}
 use Rattle.ann_types.specs.Codes.{Book}
 use Rattle.ann_types.specs.declared.params.Params.{Params}
 
