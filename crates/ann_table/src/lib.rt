@@ -9,6 +9,8 @@ mod label;
 mod links;
 mod room;
 mod table;
+#[cfg(test)]
+mod tests;
 mod vectors;
 
 pub use table::Table;
