@@ -1,5 +1,5 @@
 -- A number and its bytes.
-use Rattle.std.proofs.Common.{◌≡◌, ℕ, zero, suc, ◌+◌, ◌*◌, ◌/◌, ◌%◌, ◌<◌, ◌^◌, List, [], ◌∷◌, length, get_or, refl, ap, ◌∙◌, arith}
+use Rattle.std.proofs.Common.{◌≡◌, ℕ, zero, suc, ◌+◌, ◌*◌, ◌/◌, ◌%◌, ◌<◌, ◌^◌, List, [], ◌∷◌, length, get_or, refl, ap, arith}
 use Rattle.std.proofs.Math.Nat.{pow-suc}
 use Rattle.ann_bytes.specs.LittleEndian.{number_of, bytes_of}
 

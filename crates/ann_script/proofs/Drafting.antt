@@ -1,7 +1,7 @@
 -- Drafts of a script, and the texts that they take.
-use Rattle.std.proofs.Common.{◌≡◌, false, ◌≤◌, ◌<◌, ℕ, ◌+◌, List, [], ◌∷◌, ◌++◌, length, refl, sym, ap, subst, ◌∙◌, arith, append_assoc, append-nil, length-append}
-use Rattle.std.specs.Prelude.{Option, Some, None, Result, Ok, Err}
-use Rattle.ann_script.specs.Script.{Client, Ending, Whole, is_line_feed, said, lines, lines_said}
+use Rattle.std.proofs.Common.{◌≡◌, false, ◌≤◌, ℕ, ◌+◌, List, [], ◌∷◌, ◌++◌, length, sym, ap, subst, ◌∙◌, arith, append_assoc, length-append}
+use Rattle.std.specs.Prelude.{Some, None, Ok, Err}
+use Rattle.ann_script.specs.Script.{Ending, Whole, is_line_feed, said, lines, lines_said}
 use Rattle.ann_script.specs.Drafts.{IsOneLine, Continues, Judges, Takes, Finishes, said_from}
 use Rattle.ann_script.specs.declared.script_refused.ScriptRefused.{ScriptRefused}
 use Rattle.ann_script.specs.declared.script_refused.ScriptRefused.TheVariants.{Line, Failed, Memory}

@@ -1,12 +1,12 @@
 -- Reading a script from an input, piece by piece.
-use Rattle.std.proofs.Common.{◌≡◌, ◌≤◌, ◌<◌, ℕ, ◌+◌, ◌-◌, ◌⊎◌, inl, inr, List, [], ◌∷◌, ◌++◌, length, take, refl, sym, ap, subst, ◌∙◌, arith, append_assoc, append-nil, length-append, nat_le, true, false, cond, Bool}
+use Rattle.std.proofs.Common.{◌≡◌, ◌≤◌, ◌<◌, ℕ, ◌+◌, ◌-◌, inl, inr, List, [], ◌++◌, length, take, refl, sym, ap, subst, ◌∙◌, arith, append_assoc, append-nil, length-append, nat_le, true, false, cond}
 use Rattle.std.proofs.Math.Seq.{take-append-add, take-append_seam}
 use Rattle.std.proofs.lemmas.Grind.{common_steps}
 use Rattle.std.specs.Prelude.{Option, Some, None, Result, Ok, Err}
 use Rattle.std.specs.Io.KnownBytes.{Consumes, Keeps, IsAtEnd}
 use Rattle.ann_script.specs.Script.{Client, Ending, Whole, Cut, Long, lines, lines_said, text_said, script_of, limit}
 use Rattle.ann_script.specs.Drafts.{IsOneLine, Continues, Takes, Finishes, said_from}
-use Rattle.ann_script.specs.Reading.{ReadsAll, FindsFault, IsCut, Reads, Tells}
+use Rattle.ann_script.specs.Reading.{FindsFault, IsCut, Reads, Tells}
 use Rattle.ann_script.specs.declared.draft.Draft.{Draft}
 use Rattle.ann_script.specs.declared.script_refused.ScriptRefused.{ScriptRefused}
 use Rattle.ann_script.specs.declared.script_refused.ScriptRefused.TheVariants.{Line, Failed, Memory}

@@ -1,11 +1,11 @@
 -- The lines of a text, taken one after another.
-use Rattle.std.proofs.Common.{◌≡◌, ◌≤◌, ◌<◌, ℕ, ◌+◌, List, [], ◌∷◌, ◌++◌, length, refl, sym, ap, subst, ◌∙◌, take, drop, get_or, arith, true, false, cond}
+use Rattle.std.proofs.Common.{◌≡◌, ◌<◌, ℕ, ◌+◌, List, [], ◌∷◌, ◌++◌, refl, sym, ap, subst, ◌∙◌, take, drop, get_or, arith, true, false, cond}
 use Rattle.std.proofs.lemmas.Bool.{eqb-true}
 use Rattle.std.proofs.lemmas.List.{get_or-take, length-take}
 use Rattle.std.proofs.lemmas.List.Sums.{fails_before_first, passes_at_first, split_at_first}
 use Rattle.std.proofs.lemmas.List.Splits.{slice_split_none, slice_split_at}
-use Rattle.std.specs.Prelude.{position, Option, Some, None, Result, Ok, Err}
-use Rattle.std.specs.List.{position_or_len, slice_split, onto_first}
+use Rattle.std.specs.Prelude.{position, Option, Some, None, Result, Err}
+use Rattle.std.specs.List.{position_or_len, onto_first}
 use Rattle.ann_script.proofs.Places.{found_is_first, none_is_past}
 use Rattle.ann_script.specs.Script.{Client, Ending, is_line_feed, lines, said, lines_said}
 use Rattle.ann_script.specs.Drafts.{IsOneLine}

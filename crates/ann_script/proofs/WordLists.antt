@@ -1,5 +1,5 @@
 -- The words of a text, taken one after another.
-use Rattle.std.proofs.Common.{◌≡◌, ◌<◌, ℕ, ◌+◌, List, [], ◌∷◌, length, refl, sym, ap, subst, ◌∙◌, take, drop, arith, true, false, not, cond, Bool, zero, suc}
+use Rattle.std.proofs.Common.{◌≡◌, ◌<◌, ℕ, ◌+◌, List, [], ◌∷◌, length, refl, sym, ap, subst, ◌∙◌, take, drop, arith, true, false, not, cond, zero, suc}
 use Rattle.std.specs.Prelude.{filter}
 use Rattle.std.specs.List.{position_or_len, slice_split, onto_first}
 use Rattle.ann_script.specs.Words.{is_blank, is_word, words}

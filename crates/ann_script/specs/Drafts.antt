@@ -1,5 +1,5 @@
 -- A script of which a part was read.
-use Rattle.std.specs.Prelude.{◌≡◌, ℕ, ◌+◌, ◌≤◌, List, [], ◌∷◌, ◌++◌, length, Bool, false, Option, Some, None, MatchOption, Result, Ok, Err, All}
+use Rattle.std.specs.Prelude.{◌≡◌, ℕ, ◌+◌, ◌≤◌, List, [], ◌∷◌, ◌++◌, length, false, Option, Some, None, MatchOption, Result, Ok, Err, All}
 use Rattle.std.specs.Borrow.{Bor}
 use Rattle.ann_script.specs.Script.{Client, Ending, Whole, is_line_feed, said, lines, lines_said}
 use Rattle.ann_script.specs.declared.draft.Draft.{Draft}

@@ -1,5 +1,5 @@
 -- What a command says, in plain values.
-use Rattle.std.specs.Prelude.{ℕ, Bool, List, map}
+use Rattle.std.specs.Prelude.{ℕ, Bool, List}
 use Rattle.ann_types.specs.declared.change.Change.{Change}
 use Rattle.ann_script.specs.declared.command.Command.{Command}
 use Rattle.ann_script.specs.declared.command.Command.TheVariants.{Update, Search}

@@ -1,5 +1,5 @@
 -- What parsing gives: a value where the grammar gives one, a fault where it gives none; want of memory is free.
-use Rattle.std.specs.Prelude.{◌≡◌, List, Option, Some, None, Result, Ok, Err}
+use Rattle.std.specs.Prelude.{◌≡◌, Option, Some, None, Result, Ok, Err}
 use Rattle.ann_script.specs.declared.parse_refused.ParseRefused.{ParseRefused}
 use Rattle.ann_script.specs.declared.parse_refused.ParseRefused.TheVariants.{Fault, Memory}
 

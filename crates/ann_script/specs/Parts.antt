@@ -1,6 +1,6 @@
--- What the parts of a script in memory, and what parsing a line gives.
-use Rattle.std.specs.Prelude.{◌≡◌, List, Option, Some, None, Result, Ok, Err, map, string_bytes}
-use Rattle.ann_script.specs.Order.{Order, order_of}
+-- The client that a part of a script in memory stands for.
+use Rattle.std.specs.Prelude.{map, string_bytes}
+use Rattle.ann_script.specs.Order.{order_of}
 use Rattle.ann_script.specs.Script.{Client}
 use Rattle.ann_script.specs.declared.script.Part.{Part}
 

@@ -11,7 +11,7 @@ use crate::source::Source;
 use std::alloc::Global;
 
 /// The most bytes of a script.
-pub const LIMIT: usize = 1 << 26;
+const LIMIT: usize = 1 << 26;
 
 /// How many bytes are read at once.
 const CHUNK: usize = 8192;

@@ -8,7 +8,7 @@ use crate::{
     Transcript, Verbs, write_all,
 };
 use ann_types::{Change, Hit, Tag};
-use std::alloc::Global;
+use std::alloc::{AllocError, Global};
 use std::test::Fail;
 
 /// What reading a script gave, in one number: 0 for a script, the number of the line at fault, or another for the rest.
@@ -25,47 +25,49 @@ fn first_fault<S: Source>(alloc: Global, input: &mut S) -> u64 {
     }
 }
 
+/// Scripts, and the number of their first line at fault, or 0.
+const SCRIPTS: [(&str, u64); 33] = [
+    ("", 0),
+    ("a insert 7 3 4\na insert x 1 1\n", 2),
+    ("a insert 7 3 4\na search 1 4 0 0", 0),
+    ("a insert 7 3 4\n\na insert 8 3", 3),
+    (
+        " \ta\tinsert  7 3 4 \t\r\n#a line\n\n \t\n# a insert 07 1\na search 1 4 0 0\r\n",
+        0,
+    ),
+    ("a insert 07 3 4", 1),
+    ("a insert +7 3 4", 1),
+    ("a insert 7 03", 1),
+    ("a insert 7 0 255", 0),
+    ("a insert 7 256", 1),
+    ("a insert 18446744073709551615 1", 0),
+    ("a insert 18446744073709551616 1", 1),
+    ("a insert 7", 1),
+    ("a insert", 1),
+    ("a", 1),
+    ("a search 1 4 0\na insrt 7 1\n", 2),
+    ("a delete 7", 1),
+    ("a merge", 1),
+    ("a search 0 4 0", 1),
+    ("a search 5 4 0", 1),
+    ("a search 4 4 0", 0),
+    ("a search 1000 1000 0", 0),
+    ("a search 1 1001 0", 1),
+    ("a search 1 4", 1),
+    ("a search 1", 1),
+    ("a search 1 1 0 # none", 1),
+    ("a search 1 1 0\r\r\n", 1),
+    ("a search 1 1 0\r", 0),
+    ("a search 1 1 0\nb search 1 1 0\n", 2),
+    ("abcdefghijklm_-0 search 1 1 0", 0),
+    ("abcdefghijklm_-01 search 1 1 0", 1),
+    ("a! search 1 1 0", 1),
+    ("a search 1 1 0\n\n\nx\n\ny\n", 4),
+];
+
 #[test]
 fn finds_the_first_line_at_fault(rt: HostRuntime) -> Result<(), Fail> {
-    let cases: [(&str, u64); 33] = [
-        ("", 0),
-        ("a insert 7 3 4\na insert x 1 1\n", 2),
-        ("a insert 7 3 4\na search 1 4 0 0", 0),
-        ("a insert 7 3 4\n\na insert 8 3", 3),
-        (
-            " \ta\tinsert  7 3 4 \t\r\n#a line\n\n \t\n# a insert 07 1\na search 1 4 0 0\r\n",
-            0,
-        ),
-        ("a insert 07 3 4", 1),
-        ("a insert +7 3 4", 1),
-        ("a insert 7 03", 1),
-        ("a insert 7 0 255", 0),
-        ("a insert 7 256", 1),
-        ("a insert 18446744073709551615 1", 0),
-        ("a insert 18446744073709551616 1", 1),
-        ("a insert 7", 1),
-        ("a insert", 1),
-        ("a", 1),
-        ("a search 1 4 0\na insrt 7 1\n", 2),
-        ("a delete 7", 1),
-        ("a merge", 1),
-        ("a search 0 4 0", 1),
-        ("a search 5 4 0", 1),
-        ("a search 4 4 0", 0),
-        ("a search 1000 1000 0", 0),
-        ("a search 1 1001 0", 1),
-        ("a search 1 4", 1),
-        ("a search 1", 1),
-        ("a search 1 1 0 # none", 1),
-        ("a search 1 1 0\r\r\n", 1),
-        ("a search 1 1 0\r", 0),
-        ("a search 1 1 0\nb search 1 1 0\n", 2),
-        ("abcdefghijklm_-0 search 1 1 0", 0),
-        ("abcdefghijklm_-01 search 1 1 0", 1),
-        ("a! search 1 1 0", 1),
-        ("a search 1 1 0\n\n\nx\n\ny\n", 4),
-    ];
-    for (text, line) in cases {
+    for (text, line) in SCRIPTS {
         let mut input = MemorySource::new(rt.alloc(), text.as_bytes(), &[])?;
         assert_eq!(rt; first_fault(rt.alloc(), &mut input), line, "{text}");
     }
@@ -146,21 +148,116 @@ fn tells_read_faults_from_lines(rt: HostRuntime) -> Result<(), Fail> {
     Ok(())
 }
 
-fn update(refused: UpdateWord, batch: bool) -> Reply {
-    Reply::Update { refused, batch }
-}
+/// Accepted updates: kind, tag, changes and length of the list, with the reply.
+const ACCEPTED: [(Kind, Tag, u32, u64, &str); 5] = [
+    (Kind::Insert, 7, 1, 1, "a 1 inserted 7 at 1\n"),
+    (Kind::Delete, 7, 1, 2, "a 1 deleted 7 at 2\n"),
+    (Kind::Replace, 7, 1, 2, "a 1 replaced 7 at 2\n"),
+    (Kind::Batch, 0, 2, 3, "a 1 accepted 2 at 3\n"),
+    (
+        Kind::Insert,
+        18446744073709551615,
+        1,
+        18446744073709551615,
+        "a 1 inserted 18446744073709551615 at 18446744073709551615\n",
+    ),
+];
 
-fn accepted(kind: Kind, tag: Tag, count: u32, at: u64) -> Reply {
-    Reply::Accepted {
-        kind,
-        tag,
-        count,
-        at,
-    }
+/// Refused updates, and whether they are batches, with the reply.
+const UPDATES: [(UpdateWord, bool, &str); 9] = [
+    (
+        UpdateWord::Present {
+            index: 0,
+            tag: 7,
+            at: 1,
+        },
+        false,
+        "a 1 present 7 at 1\n",
+    ),
+    (
+        UpdateWord::Absent {
+            index: 0,
+            tag: 8,
+            at: 1,
+        },
+        false,
+        "a 1 absent 8 at 1\n",
+    ),
+    (
+        UpdateWord::Dimension {
+            index: 0,
+            got: 1,
+            want: 2,
+            at: 0,
+        },
+        false,
+        "a 1 dimension 1 of 2 at 0\n",
+    ),
+    (
+        UpdateWord::Full { index: 0, at: 9 },
+        false,
+        "a 1 full at 9\n",
+    ),
+    (
+        UpdateWord::Present {
+            index: 1,
+            tag: 8,
+            at: 3,
+        },
+        true,
+        "a 1 change 2 present 8 at 3\n",
+    ),
+    (UpdateWord::LogFault, true, "a 1 log fault\n"),
+    (UpdateWord::Stopped { at: 2 }, false, "a 1 stopped at 2\n"),
+    (UpdateWord::Memory, true, "a 1 memory\n"),
+    (
+        UpdateWord::MemoryLogged { at: 5 },
+        false,
+        "a 1 memory, logged at 5\n",
+    ),
+];
+
+/// Refused searches, with the reply.
+const SEARCHES: [(SearchWord, &str); 4] = [
+    (
+        SearchWord::Dimension { got: 3, want: 2 },
+        "a 1 dimension 3 of 2\n",
+    ),
+    (SearchWord::Disk, "a 1 disk\n"),
+    (SearchWord::BadSegment { block: 4 }, "a 1 bad segment 4\n"),
+    (SearchWord::Shut, "a 1 shut\n"),
+];
+
+fn line_of(alloc: Global, reply: &Reply) -> Result<Transcript, AllocError> {
+    let mut transcript = Transcript::new(alloc);
+    transcript.line("a", 1, reply)?;
+    Ok(transcript)
 }
 
 #[test]
-fn writes_transcripts(rt: HostRuntime) -> Result<(), Fail> {
+fn writes_replies_to_updates(rt: HostRuntime) -> Result<(), Fail> {
+    for (kind, tag, count, at, text) in ACCEPTED {
+        let reply = Reply::Accepted {
+            kind,
+            tag,
+            count,
+            at,
+        };
+        assert_eq!(rt; line_of(rt.alloc(), &reply)?.bytes(), text.as_bytes());
+    }
+    for (refused, batch, text) in UPDATES {
+        let reply = Reply::Update { refused, batch };
+        assert_eq!(rt; line_of(rt.alloc(), &reply)?.bytes(), text.as_bytes());
+    }
+    Ok(())
+}
+
+#[test]
+fn writes_replies_to_searches(rt: HostRuntime) -> Result<(), Fail> {
+    for (refused, text) in SEARCHES {
+        let reply = Reply::Search { refused };
+        assert_eq!(rt; line_of(rt.alloc(), &reply)?.bytes(), text.as_bytes());
+    }
     let mut hits = HitList::new(rt.alloc());
     hits.push(Hit {
         tag: 3,
@@ -171,77 +268,13 @@ fn writes_transcripts(rt: HostRuntime) -> Result<(), Fail> {
         distance: 100,
     })?;
     let none = HitList::new(rt.alloc());
-    let replies = [
-        accepted(Kind::Insert, 7, 1, 1),
-        accepted(Kind::Delete, 7, 1, 2),
-        accepted(Kind::Replace, 7, 1, 2),
-        accepted(Kind::Batch, 0, 2, 3),
-        update(
-            UpdateWord::Present {
-                index: 0,
-                tag: 7,
-                at: 1,
-            },
-            false,
-        ),
-        update(
-            UpdateWord::Absent {
-                index: 0,
-                tag: 8,
-                at: 1,
-            },
-            false,
-        ),
-        update(
-            UpdateWord::Dimension {
-                index: 0,
-                got: 1,
-                want: 2,
-                at: 0,
-            },
-            false,
-        ),
-        update(UpdateWord::Full { index: 0, at: 9 }, false),
-        update(
-            UpdateWord::Present {
-                index: 1,
-                tag: 8,
-                at: 3,
-            },
-            true,
-        ),
-        update(UpdateWord::LogFault, true),
-        update(UpdateWord::Stopped { at: 2 }, false),
-        update(UpdateWord::Memory, true),
-        update(UpdateWord::MemoryLogged { at: 5 }, false),
-        Reply::Found { at: 11, hits },
-        Reply::Found { at: 0, hits: none },
-        Reply::Search {
-            refused: SearchWord::Dimension { got: 3, want: 2 },
-        },
-        Reply::Search {
-            refused: SearchWord::Disk,
-        },
-        Reply::Search {
-            refused: SearchWord::BadSegment { block: 4 },
-        },
-        Reply::Search {
-            refused: SearchWord::Shut,
-        },
-    ];
     let mut transcript = Transcript::new(rt.alloc());
-    for reply in &replies {
-        transcript.line("a", 1, reply)?;
-    }
-    transcript.line(
-        "b-2",
-        4294967295,
-        &accepted(Kind::Insert, u64::MAX, 1, u64::MAX),
-    )?;
-    transcript.last(2, 1)?;
+    transcript.line("a", 10, &Reply::Found { at: 11, hits })?;
+    transcript.line("b-2", 4294967295, &Reply::Found { at: 0, hits: none })?;
+    transcript.last(11, 3)?;
     let text =
-        "a 1 inserted 7 at 1\na 1 deleted 7 at 2\na 1 replaced 7 at 2\na 1 accepted 2 at 3\na 1 present 7 at 1\na 1 absent 8 at 1\na 1 dimension 1 of 2 at 0\na 1 full at 9\na 1 change 2 present 8 at 3\na 1 log fault\na 1 stopped at 2\na 1 memory\na 1 memory, logged at 5\na 1 found at 11 3:0 4:100\na 1 found at 0 none\na 1 dimension 3 of 2\na 1 disk\na 1 bad segment 4\na 1 shut\nb-2 4294967295 inserted 18446744073709551615 at 18446744073709551615\nlog 2 entries, 1 live\n";
-    assert_eq!(rt; transcript.bytes(), text.as_bytes());
+        b"a 10 found at 11 3:0 4:100\nb-2 4294967295 found at 0 none\nlog 11 entries, 3 live\n";
+    assert_eq!(rt; transcript.bytes(), text.as_slice());
     Ok(())
 }
 

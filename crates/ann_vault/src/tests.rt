@@ -61,9 +61,9 @@ fn a_seal_keeps_its_bytes(rt: HostRuntime) -> Result<(), Fail> {
     Ok(())
 }
 
-// What a failing seal and a failing removal leave: nothing at an odd call, and all at an even one.
+// A seal that is made to fail in an even call is done.
 #[test]
-fn the_listed_calls_fail(rt: HostRuntime) -> Result<(), Fail> {
+fn a_failing_seal(rt: HostRuntime) -> Result<(), Fail> {
     let alloc = rt.alloc();
     let mut vault = MemoryVault::new(alloc, &[1, 4])?;
     assert!(rt; vault.create(6).is_err());
@@ -72,6 +72,13 @@ fn the_listed_calls_fail(rt: HostRuntime) -> Result<(), Fail> {
     assert!(rt; vault.seal(draft).is_err());
     let seal = vault.open(6)?.ok_or("it is there")?;
     assert_eq!(rt; seal.bytes(), b"ab".as_slice());
+    Ok(())
+}
+
+// A removal that is made to fail in an odd call isn't done.
+#[test]
+fn a_failing_removal(rt: HostRuntime) -> Result<(), Fail> {
+    let alloc = rt.alloc();
     let mut vault = MemoryVault::new(alloc, &[1, 3])?;
     vault.preset(8, b"ab")?;
     let mut list = vec![in alloc; 5]?;

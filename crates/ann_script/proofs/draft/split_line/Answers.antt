@@ -1,4 +1,4 @@
-use Rattle.std.proofs.Common.{sym, ◌∙◌, ap}
+use Rattle.std.proofs.Common.{sym, ◌∙◌}
 use Rattle.std.proofs.lemmas.List.{take_rest}
 use Rattle.ann_script.proofs.Lines.{one_line-from_none, one_line-front, split_at_found}
 use Rattle.ann_script.proofs.draft.split_line.Goals as goal

@@ -1,4 +1,4 @@
-use Rattle.std.proofs.Common.{◌≡◌, ◌++◌}
+use Rattle.std.proofs.Common.{◌≡◌}
 use Rattle.ann_script.specs.Grammar.{components}
 use Rattle.ann_script.specs.Words.{words}
 use Rattle.ann_script.proofs.Behind.{behind}

@@ -1,6 +1,5 @@
 use Rattle.std.proofs.Common.{sym, refl, ap, ◌∙◌, ◌++◌, ◌∷◌, [], arith}
 use Rattle.ann_script.specs.Order.{order_of}
-use Rattle.ann_script.specs.declared.script.Part.{Part}
 use Rattle.ann_script.proofs.Places.{found_is_first, none_is_past, none_passes}
 use Rattle.ann_script.proofs.Clients.{named, pushed, added-at, added-full, added-last}
 use Rattle.ann_script.proofs.script.add.Goals as goal

@@ -1,4 +1,4 @@
-use Rattle.std.proofs.Common.{ap, ◌∙◌, ◌+◌}
+use Rattle.std.proofs.Common.{ap, ◌+◌}
 use Rattle.std.proofs.lemmas.Result.{err_from_is_err_and}
 use Rattle.ann_script.proofs.Drafting.{ended_ok, one_line-append, takes-refused}
 use Rattle.ann_script.proofs.draft.Draft.end_line.Goals as goal

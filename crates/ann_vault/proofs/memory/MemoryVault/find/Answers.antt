@@ -1,4 +1,4 @@
-use Rattle.std.proofs.Common.{◌≡◌, ap, ◌∙◌, refl, sym, Some, Vec, ℕ, Global}
+use Rattle.std.proofs.Common.{ap, ◌∙◌, refl, sym, Some, Vec, ℕ, Global}
 use Rattle.std.specs.Option.{option_map}
 use Rattle.ann_vault.specs.Memory.{seal_bytes}
 use Rattle.ann_vault.proofs.Held.{get-held}
