@@ -4,3 +4,4 @@ pub mod Nodes
 pub mod Settled
 pub mod Sound
 pub mod Tables
+pub mod Graphs
