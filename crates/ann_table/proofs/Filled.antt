@@ -1,8 +1,8 @@
 -- Lists that use all of their places, as vectors of one width do.
-use Rattle.std.proofs.Common.{◌≡◌, ℕ, ◌+◌, ◌-◌, ◌*◌, ◌≤◌, ◌<◌, List, [], ◌∷◌, ◌++◌, refl, sym, ap, ◌∙◌, arith, take, drop, length, get_or, replicate}
+use Rattle.std.proofs.Common.{◌≡◌, ℕ, ◌+◌, ◌-◌, ◌*◌, ◌≤◌, ◌<◌, List, [], ◌∷◌, ◌++◌, sym, ap, ◌∙◌, arith, take, drop, length, get_or, replicate}
 use Rattle.std.proofs.lemmas.List.{length-replicate, get_or-replicate, append-nil}
 use Rattle.ann_table.specs.Lists.{Lists, lists_in}
-use Rattle.ann_table.proofs.Listed.{shown, seen_row, seen_lists, used_replicate, get_ends, get_is, push_is, length_lists, replicate_more, room_left, more_places}
+use Rattle.ann_table.proofs.Listed.{shown, seen_lists, used_replicate, get_ends, get_is, push_is, length_lists, replicate_more}
 
 module _ (p s n : ℕ) (xs : List ℕ) (v : Lists) (is : shown p s (lists_in p (replicate n p) xs) ≡ v) where
   pub filled_count : length v.lists ≡ n

@@ -1,11 +1,10 @@
 -- The graph that rows make: its walks and distances are those by rows, by the rows' Pids.
 use Rattle.std.proofs.Common.{◌≡◌, ℕ, ◌<◌, List, [], ◌∷◌, refl, sym, ap, subst, ◌∙◌, arith, map, length, get_or}
-use Rattle.std.specs.Prelude.{Some}
 use Rattle.std.proofs.Math.ListN.{get_or-map}
 use Rattle.std.proofs.lemmas.List.{length-map}
 use Rattle.ann_types.specs.Distance.{distance}
 use Rattle.ann_types.specs.Walk.{Ground, near, visited_of}
-use Rattle.ann_types.specs.Graph.{Point, pids_of, vector_of, links_of, far_from, apart_in, ground, visited, near_to}
+use Rattle.ann_types.specs.Graph.{Point, pids_of, links_of, far_from, apart_in, ground, visited, near_to}
 use Rattle.ann_types.specs.declared.params.Params.{Params}
 use Rattle.ann_types.proofs.Sets.{Rises, rises_from_increasing}
 use Rattle.ann_types.proofs.Renamed.{Below, Renames, visited_map, near_visited_map}

@@ -3,7 +3,7 @@ use Rattle.std.proofs.Common.{◌≡◌, add-one, ℕ, zero, suc, ◌+◌, ◌-�
 use Rattle.std.specs.List.{AllByRecursion}
 use Rattle.std.proofs.Math.Nat.{zero-mul, suc-mul, mul-le-mul_right}
 use Rattle.std.proofs.Math.Seq.{take-append_seam}
-use Rattle.std.proofs.lemmas.List.{take-append-le, drop-append-le, drop-drop, length-drop, length-take, length-take-le, take-take, length-append, length-set, drop-take, drop-set-lt, drop-set-add, take-set-le, take_more_set, length-replicate, get_or-replicate, replicate-append-replicate}
+use Rattle.std.proofs.lemmas.List.{take-append-le, drop-append-le, drop-drop, length-drop, length-take, length-take-le, take-take, length-append, length-set, drop-take, drop-set-lt, drop-set-add, take-set-le, take_more_set, replicate-append-replicate}
 use Rattle.std.proofs.lemmas.Slice.{drop-append-drop}
 use Rattle.ann_table.specs.Lists.{Lists, lists_in, put_in, HasPlaces}
 

@@ -1,7 +1,7 @@
 -- Rows made of labels, vectors and neighbours: a row is read, added and changed.
-use Rattle.std.proofs.Common.{◌≡◌, ℕ, zero, suc, ◌+◌, ◌≤◌, ◌<◌, List, [], ◌∷◌, ◌++◌, refl, sym, ap, subst, ◌∙◌, arith, set, length, get_or}
+use Rattle.std.proofs.Common.{◌≡◌, ℕ, zero, suc, ◌<◌, List, [], ◌∷◌, ◌++◌, refl, ap, arith, set, length, get_or}
 use Rattle.ann_table.specs.declared.label.Label.{Label}
-use Rattle.ann_table.specs.Node.{Node, nothing, node_at, linked}
+use Rattle.ann_table.specs.Node.{node_at, linked}
 use Rattle.ann_table.specs.Table.{node, nodes_of}
 
 pub length_nodes : (xs : List Label) (vs ls : List (List ℕ)) → length vs ≡ length xs → length ls ≡ length xs → length (nodes_of xs vs ls) ≡ length xs

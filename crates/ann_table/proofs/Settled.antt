@@ -1,12 +1,11 @@
 -- Rows that a prune kept stay settled where distances stay, and where a row that isn't below `newer` comes.
-use Rattle.std.proofs.Common.{◌≡◌, ℕ, zero, suc, ◌+◌, ◌*◌, ◌≤◌, ◌<◌, Bool, true, false, ltb, leb, eqb, ◌||◌, ◌&&◌, List, [], ◌∷◌, ◌++◌, refl, sym, ap, subst, ◌∙◌, arith, inl, inr, length, get_or, eqb-true}
+use Rattle.std.proofs.Common.{◌≡◌, ℕ, suc, ◌*◌, ◌≤◌, ◌<◌, true, false, ltb, leb, eqb, ◌||◌, ◌&&◌, List, [], ◌∷◌, ◌++◌, refl, sym, ap, subst, ◌∙◌, arith, inl, inr, eqb-true}
 use Rattle.std.specs.List.{All, AllByRecursion}
 use Rattle.std.proofs.lemmas.Bool.{false≢true}
 use Rattle.ann_types.specs.Order.{has, before}
 use Rattle.ann_types.specs.Kept.{Rule}
 use Rattle.ann_types.proofs.Ordered.{has_cases}
-use Rattle.ann_types.proofs.Sets.{has_below}
-use Rattle.ann_prune.specs.Newer.{AreSettled, leaves_out}
+use Rattle.ann_prune.specs.Newer.{AreSettled}
 
 -- the same by recursion
 pub each_of : {A : Type 0} (P : A → Type 0) (xs : List A) → All P xs → AllByRecursion P xs

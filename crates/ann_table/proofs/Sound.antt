@@ -1,9 +1,9 @@
 -- What is true of every table stays true: of none, with a row more, with one row's neighbours changed.
-use Rattle.std.proofs.Common.{◌≡◌, ◌≢◌, ℕ, zero, suc, ◌+◌, ◌≤◌, ◌<◌, List, [], ◌∷◌, ◌++◌, refl, sym, ap, subst, ◌∙◌, arith, inl, inr, set, length, get_or, map, get_or-set_same, get_or-set_other, length-set, length-append}
+use Rattle.std.proofs.Common.{◌≡◌, ◌≢◌, ℕ, suc, ◌+◌, ◌≤◌, ◌<◌, List, [], ◌∷◌, ◌++◌, refl, sym, ap, subst, ◌∙◌, arith, inl, inr, length, get_or-set_same, get_or-set_other, length-set, length-append}
 use Rattle.std.specs.List.{All, AllByRecursion}
 use Rattle.std.specs.List.Sorted.{IsStrictlyIncreasing}
 use Rattle.std.proofs.lemmas.Bool.{cases_eq, cases_lt}
-use Rattle.std.proofs.lemmas.List.{get_or_append_left, length-map, map-append, get_or-append-add}
+use Rattle.std.proofs.lemmas.List.{get_or_append_left, length-map, map-append}
 use Rattle.std.proofs.lemmas.List.Elements.{All-push, All-set}
 use Rattle.std.proofs.Math.Seq.{map-set_same, get_or-append_seam}
 use Rattle.ann_types.specs.Distance.{distance}
@@ -13,7 +13,7 @@ use Rattle.ann_types.proofs.Sets.{Rises, rises_from_increasing, increasing_from_
 use Rattle.ann_prune.specs.Newer.{AreSettled}
 use Rattle.ann_table.specs.Node.{Node, nothing, node_at, row_pids, apart_rows, linked}
 use Rattle.ann_table.specs.Table.{AreNeighbours, IsNode, AreNodes}
-use Rattle.ann_table.proofs.Settled.{AreSame, settled_none, settled_push, settled_same, has_all}
+use Rattle.ann_table.proofs.Settled.{AreSame, settled_none, settled_same}
 
 pub nodes_none : (params : Params) → AreNodes params []
 nodes_none params = record {

@@ -1,5 +1,5 @@
 -- The rows of a table, and the graph that they make.
-use Rattle.std.specs.Prelude.{◌≡◌, ℕ, List, [], ◌∷◌, Option, Some, None, map, length, get_or, slice_set}
+use Rattle.std.specs.Prelude.{ℕ, List, [], ◌∷◌, Option, Some, None, map, length, get_or, slice_set}
 use Rattle.ann_types.specs.Distance.{distance}
 use Rattle.ann_types.specs.Graph.{Point, Graph}
 use Rattle.ann_types.specs.declared.params.Params.{Params}

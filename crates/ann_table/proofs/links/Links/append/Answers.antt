@@ -1,4 +1,4 @@
-use Rattle.std.proofs.Common.{◌≡◌, ◌≤◌, ◌<◌, ◌+◌, ◌*◌, ℕ, sym, ap, ◌∙◌, arith, length, set, length-set}
+use Rattle.std.proofs.Common.{◌+◌, ◌*◌, ap, ◌∙◌, arith, set, length-set}
 use Rattle.ann_table.specs.Lists.{lists_in}
 use Rattle.ann_table.proofs.Listed.{seen_row, append_is, append_fits, append_few, places_set}
 use Rattle.ann_table.proofs.links.Links.append.Goals as goal

@@ -1,5 +1,5 @@
-use Rattle.std.proofs.Common.{◌≡◌, ◌≤◌, ◌+◌, ◌*◌, ◌-◌, ℕ, ap, ◌∙◌, arith, take, drop, length}
-use Rattle.ann_table.proofs.Listed.{seen_row, get_ends, get_few, get_is}
+use Rattle.std.proofs.Common.{◌≤◌, ◌+◌, ◌*◌, ◌-◌, ap, ◌∙◌, arith, take, drop, length}
+use Rattle.ann_table.proofs.Listed.{seen_row, get_ends, get_is}
 use Rattle.ann_table.proofs.links.Links.get.Goals as goal
 
 pub index-requires : goal.index-requires

@@ -1,4 +1,4 @@
-use Rattle.std.proofs.Common.{◌≡◌, ◌≤◌, ◌+◌, ◌-◌, ◌*◌, ◌++◌, ℕ, refl, ap, ◌∙◌, arith, length, replicate, vec_len, vec_capacity}
+use Rattle.std.proofs.Common.{◌≡◌, ◌+◌, ◌-◌, ◌++◌, ℕ, refl, ap, ◌∙◌, arith, length, replicate, vec_capacity}
 use Rattle.std.proofs.lemmas.List.{length-replicate}
 use Rattle.ann_table.proofs.Listed.{seen_places, seen_spare, room_one, push_is, places_push}
 use Rattle.ann_table.proofs.links.Links.push.Goals as goal
@@ -33,8 +33,8 @@ invariant_of-self c =
     let few = c.requires.few in
     let some = c.requires.room in
     let from = c.from.ensures in
-    let rest : length (replicate (c.from.result - length c.args.list.now) 0) ≡ c.from.result - length c.args.list.now = length-replicate (c.from.result - length c.args.list.now) 0 in
-    let full : length c.args.list.now + length (replicate (c.from.result - length c.args.list.now) 0) ≡ c.self.inside.places = ap (λ n. length c.args.list.now + n) rest ∙ omega arith in
+    let rest : length {A = ℕ} (replicate (c.from.result - length c.args.list.now) 0) ≡ c.from.result - length c.args.list.now = length-replicate (c.from.result - length c.args.list.now) 0 in
+    let full : length c.args.list.now + length {A = ℕ} (replicate (c.from.result - length c.args.list.now) 0) ≡ c.self.inside.places = ap (λ n. length c.args.list.now + n) rest ∙ omega arith in
     let more = c.extend_within.ensures.room in
     let most = c.fill_within.ensures.room in
     places_push c.self.inside.places c.self.inside.spare c.self.inside.counts.items c.self.inside.numbers.items _ _ _ _ _ _ (length c.args.list.now) c.args.list.now (replicate (c.from.result - length c.args.list.now) 0) c.self.invariant (omega arith) c.push_within.ensures.items (c.fill_within.ensures.items ∙ ap (λ t. t ++ replicate (c.from.result - length c.args.list.now) 0) c.extend_within.ensures.items) full (omega arith) c.push_within.ensures.room (omega arith)

@@ -1,5 +1,5 @@
-use Rattle.std.proofs.Common.{◌≡◌, ◌≤◌, ◌<◌, ◌+◌, ◌*◌, ℕ, sym, ap, ◌∙◌, arith, length}
-use Rattle.ann_table.proofs.Listed.{seen_row, seen_places, place_ends, set_is, places_set}
+use Rattle.std.proofs.Common.{◌≡◌, ◌*◌, ap, arith, length}
+use Rattle.ann_table.proofs.Listed.{seen_row, seen_places, place_ends, set_is}
 use Rattle.ann_table.proofs.links.Links.set.Goals as goal
 
 pub write_at-requires : goal.write_at-requires

@@ -1,6 +1,4 @@
-use Rattle.std.proofs.Common.{◌≡◌, ◌≤◌, ◌<◌, ◌+◌, ℕ, List, [], ◌∷◌, ◌++◌, refl, sym, ap, subst, ◌∙◌, arith, length, get_or, set, vec_len, vec_capacity}
-use Rattle.ann_table.specs.declared.label.Label.{Label}
-use Rattle.ann_table.specs.Node.{Node}
+use Rattle.std.proofs.Common.{refl, arith, vec_len, vec_capacity}
 use Rattle.ann_table.proofs.Tables.{seen_spare, seen_count, few_below, add_is, sound_added, stored_add}
 use Rattle.ann_table.proofs.table.Table.add.Goals as goal
 

@@ -1,4 +1,4 @@
-use Rattle.std.proofs.Common.{◌≡◌, ◌≤◌, ◌<◌, ◌+◌, ℕ, List, [], ◌∷◌, ◌++◌, refl, sym, ap, subst, ◌∙◌, arith, length, get_or, set, vec_len, vec_capacity}
+use Rattle.std.proofs.Common.{[], ◌∷◌, ◌++◌, ap, arith, length, vec_len, vec_capacity}
 use Rattle.ann_types.specs.Kept.{rule_of}
 use Rattle.ann_types.specs.declared.params.Params.{Params}
 use Rattle.ann_table.specs.Node.{node_at, apart_rows}

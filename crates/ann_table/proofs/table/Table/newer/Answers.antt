@@ -1,4 +1,4 @@
-use Rattle.std.proofs.Common.{◌≡◌, ◌≤◌, ◌<◌, ◌+◌, ℕ, List, [], ◌∷◌, ◌++◌, refl, sym, ap, subst, ◌∙◌, arith, length, get_or, set, vec_len, vec_capacity}
+use Rattle.std.proofs.Common.{sym, ap, arith, vec_len, vec_capacity}
 use Rattle.ann_table.specs.Node.{Node}
 use Rattle.ann_table.proofs.Tables.{seen_row, seen_at}
 use Rattle.ann_table.proofs.table.Table.newer.Goals as goal

@@ -1,7 +1,5 @@
-use Rattle.std.proofs.Common.{◌≡◌, ◌≤◌, ◌<◌, ◌+◌, ℕ, List, [], ◌∷◌, ◌++◌, refl, sym, ap, subst, ◌∙◌, arith, length, get_or, set, vec_len, vec_capacity}
-use Rattle.ann_types.specs.Kept.{rule_of}
-use Rattle.ann_prune.specs.Newer.{AreSettled}
-use Rattle.ann_table.specs.Node.{apart_rows, linked}
+use Rattle.std.proofs.Common.{◌≡◌, ap, ◌∙◌, arith, length, vec_len, vec_capacity}
+use Rattle.ann_table.specs.Node.{linked}
 use Rattle.ann_table.proofs.Tables.{seen_row, seen_links_row, seen_count, few_seen, link_is, sound_linked, stored_set}
 use Rattle.ann_table.proofs.table.Table.set_kept.Goals as goal
 

@@ -1,4 +1,4 @@
-use Rattle.std.proofs.Common.{◌≡◌, ◌≤◌, ◌<◌, ◌+◌, ℕ, List, [], ◌∷◌, ◌++◌, refl, sym, ap, subst, ◌∙◌, arith, length, get_or, set, vec_len, vec_capacity}
+use Rattle.std.proofs.Common.{arith, vec_len, vec_capacity}
 use Rattle.ann_types.specs.Kept.{rule_of}
 use Rattle.ann_table.specs.Node.{apart_rows}
 use Rattle.ann_table.proofs.Settled.{settled_none}

@@ -1,4 +1,4 @@
-use Rattle.std.proofs.Common.{◌≡◌, ◌≤◌, ◌<◌, ◌+◌, ℕ, List, [], ◌∷◌, ◌++◌, refl, sym, ap, subst, ◌∙◌, arith, length, get_or, set, vec_len, vec_capacity}
+use Rattle.std.proofs.Common.{sym, ◌∙◌, arith, vec_len, vec_capacity}
 use Rattle.ann_table.proofs.Tables.{seen_count, first_is, some_from}
 use Rattle.ann_table.proofs.table.TableGraph.entry.Goals as goal
 

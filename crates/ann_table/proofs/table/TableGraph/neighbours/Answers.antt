@@ -1,6 +1,5 @@
-use Rattle.std.proofs.Common.{◌≡◌, ◌≤◌, ◌<◌, ◌+◌, ℕ, List, [], ◌∷◌, ◌++◌, refl, sym, ap, subst, ◌∙◌, arith, length, get_or, set, vec_len, vec_capacity}
+use Rattle.std.proofs.Common.{◌<◌, ℕ, List, sym, subst, ◌∙◌, length, vec_len, vec_capacity}
 use Rattle.std.specs.List.{All}
-use Rattle.ann_table.specs.Node.{node_at}
 use Rattle.ann_table.proofs.Tables.{seen_links_row, seen_links, known_is}
 use Rattle.ann_table.proofs.table.TableGraph.neighbours.Goals as goal
 

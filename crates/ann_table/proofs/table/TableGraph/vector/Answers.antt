@@ -1,4 +1,4 @@
-use Rattle.std.proofs.Common.{◌≡◌, ◌≤◌, ◌<◌, ◌+◌, ℕ, List, [], ◌∷◌, ◌++◌, refl, sym, ap, subst, ◌∙◌, arith, length, get_or, set, vec_len, vec_capacity}
+use Rattle.std.proofs.Common.{◌∙◌, vec_len, vec_capacity}
 use Rattle.ann_table.proofs.Tables.{seen_vector_row, seen_vector}
 use Rattle.ann_table.proofs.table.TableGraph.vector.Goals as goal
 

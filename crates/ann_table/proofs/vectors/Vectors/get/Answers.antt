@@ -1,4 +1,4 @@
-use Rattle.std.proofs.Common.{◌≡◌, ◌≤◌, ◌+◌, ◌*◌, ◌-◌, ℕ, sym, ap, ◌∙◌, arith, take, drop, length}
+use Rattle.std.proofs.Common.{◌≤◌, ◌+◌, ◌*◌, ◌-◌, ap, ◌∙◌, arith, take, drop, length}
 use Rattle.ann_table.proofs.Filled.{filled_ends, filled_is}
 use Rattle.ann_table.proofs.vectors.Vectors.get.Goals as goal
 

@@ -1,4 +1,4 @@
-use Rattle.std.proofs.Common.{◌≡◌, ◌+◌, ℕ, ◌∙◌, sym, arith, length, replicate}
+use Rattle.std.proofs.Common.{◌∙◌, sym, arith, replicate}
 use Rattle.ann_table.proofs.Listed.{seen_places}
 use Rattle.ann_table.proofs.Filled.{filled_count, filled_push}
 use Rattle.ann_table.proofs.vectors.Vectors.push.Goals as goal
