@@ -1,8 +1,7 @@
 ghost use Rattle.std.specs.Prelude.{◌≡◌, ◌≢◌, ◌≤◌, ◌<◌, ◌+◌, ◌++◌, ◌∷◌, [], length, All, IfOk, OnOk};
-ghost use Rattle.std.specs.List.Sorted.{IsStrictlyIncreasing};
 ghost use Rattle.ann_types.specs.Kept.{rule_of};
 ghost use Rattle.ann_prune.specs.Newer.{AreSettled};
-ghost use Rattle.ann_table.specs.Node.{Node, node_at, rows_of, apart_rows, row_pid, linked};
+ghost use Rattle.ann_table.specs.Node.{node_at, rows_of, apart_rows, row_pid, linked};
 ghost use Rattle.ann_table.specs.Table.{AreNeighbours, AreNodes};
 
 use crate::label::Label;
