@@ -1,4 +1,4 @@
-//! The set of deleted Pids, which a search leaves out of its answer (FreshDiskANN, section 5.1, the DeleteList).
+//! The set of deleted Pids, which a search leaves out of its answer (FreshDiskANN, the DeleteList).
 //!
 //! A [`Dead`] is seen as a set of Pids. It keeps them in sorted runs that never change, each shared by all who hold
 //! it, so a search pins the whole set by one count a run ([`Dead::pin`]) while updates go on. The sizes of the runs

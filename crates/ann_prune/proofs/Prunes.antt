@@ -12,7 +12,7 @@ use Rattle.std.proofs.lemmas.List.Sorted.{IsNonDecreasingBy-drop, IsPermutation-
 use Rattle.std.proofs.lemmas.Bool.{false≢true, or_cases, or_right, or_left, eqb-false, cond-false, false_from_ne_true, cases_eq, ne_eqb}
 use Rattle.ann_types.specs.Order.{before, in_order, has, ascending}
 use Rattle.ann_types.specs.Kept.{Rule, covered, takes, keep}
-use Rattle.ann_types.proofs.Ordered.{IsAfter, IsRising, before_from, after_has, has_here, has_later, has_cases, rising_in_order, has_in_order, before-asymmetric, before-irreflexive, before-trans, has_append}
+use Rattle.ann_types.proofs.Ordered.{IsAfter, IsRising, before_from, has_here, has_later, has_cases, rising_in_order, has_in_order, before-trans, has_append, not_in_rest, rising_unique}
 use Rattle.ann_prune.specs.declared.candidates.Candidate.{Candidate}
 use Rattle.ann_prune.specs.Rows.{row_of, key_of, IsMeasured}
 use Rattle.ann_prune.specs.Newer.{AreSettled, AreSpared}
@@ -26,39 +26,6 @@ rows-set (x ∷ s) (suc i) d a within same = ap (λ t. x.row ∷ t) (rows-set s 
 -- one candidate more is measured
 pub measured_more : (P : Candidate → Type 0) (s : List Candidate) (i : ℕ) (a : Candidate) → i < length s → All P (take i s) → P a → All P (take (i + 1) (set s i a))
 measured_more P s i a within so_far here = All-same P (take (i + 1) (set s i a)) (take i s ++ a ∷ []) (ap (λ n. take n (set s i a)) (add-one i) ∙ take-suc-set s i a within) (All-push P (take i s) a so_far here)
-
--- ---- Two lists that rise and have the same members are the same
-
-head_least : (far : ℕ → ℕ) (x y : ℕ) (xs ys : List ℕ) → IsRising far (x ∷ xs) → IsRising far (y ∷ ys) → has (y ∷ ys) x ≡ true → has (x ∷ xs) y ≡ true → x ≡ y
-head_least far x y xs ys r q h k =
-    elim (has_cases y x ys h) [
-      | inl e ↦ eqb-true x y e
-      | inr m ↦ elim (has_cases x y xs k) [
-        | inl e ↦ sym (eqb-true y x e)
-        | inr n ↦ absurd (false≢true (sym (before-asymmetric far x y (after_has far x y xs r.0 n)) ∙ after_has far y x ys q.0 m))
-      ]
-    ]
-
-not_in_rest : (far : ℕ → ℕ) (x : ℕ) (xs : List ℕ) → IsAfter far x xs → has xs x ≡ true → ⊥
-not_in_rest far x xs a h = false≢true (sym (before-irreflexive far x) ∙ after_has far x x xs a h)
-
-in_rest : (far : ℕ → ℕ) (x z : ℕ) (xs ys : List ℕ) → IsAfter far x xs → ((z : ℕ) → has (x ∷ xs) z ≡ true → has (x ∷ ys) z ≡ true) → has xs z ≡ true → has ys z ≡ true
-in_rest far x z xs ys a same h =
-    elim (has_cases x z ys (same z (has_later x z xs h))) [
-      | inl e ↦ absurd (not_in_rest far x xs a (subst (λ (t : ℕ). has xs t ≡ true) (eqb-true z x e) h))
-      | inr k ↦ k
-    ]
-
-pub rising_unique : (far : ℕ → ℕ) (xs ys : List ℕ) → IsRising far xs → IsRising far ys → ((z : ℕ) → has xs z ≡ true → has ys z ≡ true) → ((z : ℕ) → has ys z ≡ true → has xs z ≡ true) → xs ≡ ys
-rising_unique far [] [] r q to from = refl
-rising_unique far [] (y ∷ ys) r q to from = absurd (false≢true (from y (has_here y y ys (eq-eqb y y refl))))
-rising_unique far (x ∷ xs) [] r q to from = absurd (false≢true (to x (has_here x x xs (eq-eqb x x refl))))
-rising_unique far (x ∷ xs) (y ∷ ys) r q to from =
-    let same : x ≡ y = head_least far x y xs ys r q (to x (has_here x x xs (eq-eqb x x refl))) (from y (has_here y y ys (eq-eqb y y refl))) in
-    let q' : IsAfter far x ys = subst (λ (t : ℕ). IsAfter far t ys) (sym same) q.0 in
-    let to' : (z : ℕ) → has (x ∷ xs) z ≡ true → has (x ∷ ys) z ≡ true = λ z h. subst (λ (t : ℕ). has (t ∷ ys) z ≡ true) (sym same) (to z h) in
-    let from' : (z : ℕ) → has (x ∷ ys) z ≡ true → has (x ∷ xs) z ≡ true = λ z h. from z (subst (λ (t : ℕ). has (t ∷ ys) z ≡ true) same h) in
-    ap (λ t. x ∷ t) (rising_unique far xs ys r.1 q.1 (λ z h. in_rest far x z xs ys r.0 to' h) (λ z h. in_rest far x z ys xs q' from' h)) ∙ ap (λ n. n ∷ ys) same
 
 -- ---- Sorted rows, of which some may stand twice
 

@@ -11,3 +11,6 @@ mod robust;
 pub use candidates::Candidates;
 pub use metric::Metric;
 pub use robust::{prune, prune_newer};
+
+#[cfg(test)]
+mod tests;

@@ -1,17 +1,17 @@
--- The law of judgements: a change is accepted exactly where its entry may follow, so an accepted update
--- leaves a legal list.
-use Rattle.std.proofs.Common.{◌≡◌, ℕ, ◌+◌, ◌≤◌, Bool, true, false, cond, eqb, ltb, not, List, [], ◌∷◌, ◌&&◌, refl, ap, ◌∙◌, arith, map, length, is_none, eqb-true, lt-ltb, le-ltb}
+-- The laws of judgements: a change is accepted exactly where its entry may follow, so an accepted update leaves a
+-- legal list; and what is judged of an update is the same for every client.
+use Rattle.std.proofs.Common.{◌≡◌, ℕ, ◌+◌, ◌≤◌, Bool, true, false, cond, eqb, ltb, not, List, [], ◌∷◌, ◌&&◌, refl, sym, ap, ◌∙◌, arith, map, length, is_none, eqb-true, lt-ltb, le-ltb}
 use Rattle.std.specs.Prelude.{Option, Some, None}
 use Rattle.std.proofs.lemmas.Bool.{and_from, eqb-false}
 use Rattle.ann_types.specs.Index.{Index}
-use Rattle.ann_types.specs.Lists.{BasedList, with_entry, with_entries, next_pid, is_live, live_of}
+use Rattle.ann_types.specs.Lists.{BasedList, with_entry, with_entries, makes_point, next_pid, Names, is_live, live_after, live_of}
 use Rattle.ann_types.specs.Fold.{State, step, fold_of}
 use Rattle.ann_types.specs.Legal.{pid_end, fits, may_follow, legal_from, is_legal}
 use Rattle.ann_types.specs.Judge.{Refusal, Dimension, Full, Present, Absent, entry_of, judge_vector, judge_live, judge_new, judge, judge_from, judge_all}
 use Rattle.ann_types.specs.declared.params.Params.{Params}
 use Rattle.ann_types.specs.declared.change.Change.{Change}
 use Rattle.ann_types.specs.declared.change.Change.TheVariants.{Insert, Delete, Replace}
-use Rattle.ann_types.proofs.Folds.{legal_entries}
+use Rattle.ann_types.proofs.Folds.{next_pid_push, live_push, legal_entries}
 use Rattle.ann_types.proofs.Tagged.{next_pid_after, next_pid_ends}
 
 below_is_not_at : (n m : ℕ) → n ≤ m → ltb n m ≡ not (eqb n m)
@@ -65,3 +65,65 @@ pub accepted_is_legal : (index : Index) (h : BasedList) (by : ℕ) (changes : Li
 accepted_is_legal index h by changes l k a =
     legal_entries index h (map (entry_of by) changes)
     ∙ and_from (is_legal index h) (legal_from index h (fold_of index h) (map (entry_of by) changes)) k (accepted_from index h (fold_of index h) by 0 changes (next_pid_ends index h l k) a)
+
+-- ---- the client
+
+-- what is judged of a change, from the next Pid and the live tags alone
+abbrev judge_at : Params → ℕ → Names → Change → Option Refusal
+judge_at params next live (Insert tag vector) =
+    cond (not (eqb (length vector) params.d)) (Some (Dimension (length vector) params.d)) (cond (eqb next pid_end) (Some Full) (cond (is_live live tag) (Some (Present tag)) None))
+judge_at params next live (Delete tag) = cond (is_live live tag) None (Some (Absent tag))
+judge_at params next live (Replace tag vector) =
+    cond (not (eqb (length vector) params.d)) (Some (Dimension (length vector) params.d)) (cond (eqb next pid_end) (Some Full) (cond (is_live live tag) None (Some (Absent tag))))
+
+judge_is : (params : Params) (h : BasedList) (c : Change) → judge params h c ≡ judge_at params (next_pid h) (live_of h) c
+judge_is params h (Insert tag vector) = refl
+judge_is params h (Delete tag) = refl
+judge_is params h (Replace tag vector) = refl
+
+-- lists after which the same is judged
+record AreAlike (h g : BasedList) : Type 0 where
+  live : live_of h ≡ live_of g
+  next : next_pid h ≡ next_pid g
+
+judge_alike : (params : Params) (h g : BasedList) (c : Change) → AreAlike h g → judge params h c ≡ judge params g c
+judge_alike params h g c w =
+    judge_is params h c
+    ∙ ap (λ n. judge_at params n (live_of h) c) w.next
+    ∙ ap (λ live. judge_at params (next_pid g) live c) w.live
+    ∙ sym (judge_is params g c)
+
+live_by : (live : Names) (next by other : ℕ) (c : Change) → live_after live next (entry_of by c) ≡ live_after live next (entry_of other c)
+live_by live next by other (Insert tag vector) = refl
+live_by live next by other (Delete tag) = refl
+live_by live next by other (Replace tag vector) = refl
+
+makes_by : (by other : ℕ) (c : Change) → makes_point (entry_of by c) ≡ makes_point (entry_of other c)
+makes_by by other (Insert tag vector) = refl
+makes_by by other (Delete tag) = refl
+makes_by by other (Replace tag vector) = refl
+
+alike_after : (h g : BasedList) (by other : ℕ) (c : Change) → AreAlike h g → AreAlike (with_entry h (entry_of by c)) (with_entry g (entry_of other c))
+alike_after h g by other c w = record {
+  live =
+      live_push h (entry_of by c)
+      ∙ ap (λ live. live_after live (next_pid h) (entry_of by c)) w.live
+      ∙ ap (λ n. live_after (live_of g) n (entry_of by c)) w.next
+      ∙ live_by (live_of g) (next_pid g) by other c
+      ∙ sym (live_push g (entry_of other c));
+  next =
+      next_pid_push h (entry_of by c)
+      ∙ ap (λ n. n + cond (makes_point (entry_of by c)) 1 0) w.next
+      ∙ ap (λ t. next_pid g + cond t 1 0) (makes_by by other c)
+      ∙ sym (next_pid_push g (entry_of other c));
+}
+
+judge_from_alike : (params : Params) (h g : BasedList) (by other i : ℕ) (cs : List Change) → AreAlike h g → judge_from params h by i cs ≡ judge_from params g other i cs
+judge_from_alike params h g by other i [] w = refl
+judge_from_alike params h g by other i (c ∷ cs) w =
+    ap (λ (o : Option Refusal). elim o as (λ _. Option (ℕ × Refusal)) [ Some r ↦ Some (i, r) | None ↦ judge_from params (with_entry h (entry_of by c)) by (i + 1) cs ]) (judge_alike params h g c w)
+    ∙ ap (λ (rest : Option (ℕ × Refusal)). elim (judge params g c) as (λ _. Option (ℕ × Refusal)) [ Some r ↦ Some (i, r) | None ↦ rest ]) (judge_from_alike params (with_entry h (entry_of by c)) (with_entry g (entry_of other c)) by other (i + 1) cs (alike_after h g by other c w))
+
+-- What is judged of an update doesn't depend on its client.
+pub judge_all_by : (params : Params) (h : BasedList) (by other : ℕ) (changes : List Change) → judge_all params h by changes ≡ judge_all params h other changes
+judge_all_by params h by other changes = judge_from_alike params h h by other 0 changes (record { live = refl; next = refl })

@@ -1,8 +1,12 @@
 pub mod Distances
 pub mod WorkedIndexes
 pub mod WorkedGraphs
+pub mod WorkedDegrees
+pub mod WorkedCodes
+pub mod WorkedSearches
 pub mod WorkedMerges
 pub mod WorkedLists
+pub mod WorkedRefusals
 pub mod Ordered
 pub mod Walks
 pub mod Sets
@@ -13,6 +17,7 @@ pub mod Alive
 pub mod Graphs
 pub mod Merges
 pub mod States
+pub mod Entered
 pub mod Rounded
 pub mod Tagged
 pub mod Judged

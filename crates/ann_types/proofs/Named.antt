@@ -115,7 +115,7 @@ pub new_names_are : (points : List Point) → new_names (map new_point points) �
 new_names_are [] = refl
 new_names_are (x ∷ points) = ap (λ t. name x ∷ t) (new_names_are points)
 
--- a merge leaves the points of its graphs that aren't deleted
+-- a merge leaves the tags and Pids of the points of its graphs that aren't deleted
 pub names_merge_of : (index : Index) (s : State) (b : Begun) → names_of (merge_of index s (Some b)).points ≡ names_of (survivors b.gone (s.lti.points ++ flat_map (λ (g : Graph). g.points) (take b.frozen s.ros)))
 names_merge_of index s b =
     let taken : List Point = flat_map (λ (g : Graph). g.points) (take b.frozen s.ros) in

@@ -228,7 +228,51 @@ rising_take far (suc n) (x ∷ s) (a, r) = (after_take far n x s a, rising_take 
 pub rising_top : (far : ℕ → ℕ) (n : ℕ) (xs : List ℕ) → IsRising far (top far n xs)
 rising_top far n xs = rising_take far n (in_order far xs) (rising_in_order far xs)
 
+-- ---- Two lists that rise and have the same members are the same
+
+head_least : (far : ℕ → ℕ) (x y : ℕ) (xs ys : List ℕ) → IsRising far (x ∷ xs) → IsRising far (y ∷ ys) → has (y ∷ ys) x ≡ true → has (x ∷ xs) y ≡ true → x ≡ y
+head_least far x y xs ys r q h k =
+    elim (has_cases y x ys h) [
+      | inl e ↦ eqb-true x y e
+      | inr m ↦ elim (has_cases x y xs k) [
+        | inl e ↦ sym (eqb-true y x e)
+        | inr n ↦ absurd (false≢true (sym (before-asymmetric far x y (after_has far x y xs r.0 n)) ∙ after_has far y x ys q.0 m))
+      ]
+    ]
+
+pub not_in_rest : (far : ℕ → ℕ) (x : ℕ) (xs : List ℕ) → IsAfter far x xs → has xs x ≡ true → ⊥
+not_in_rest far x xs a h = false≢true (sym (before-irreflexive far x) ∙ after_has far x x xs a h)
+
+in_rest : (far : ℕ → ℕ) (x z : ℕ) (xs ys : List ℕ) → IsAfter far x xs → ((z : ℕ) → has (x ∷ xs) z ≡ true → has (x ∷ ys) z ≡ true) → has xs z ≡ true → has ys z ≡ true
+in_rest far x z xs ys a same h =
+    elim (has_cases x z ys (same z (has_later x z xs h))) [
+      | inl e ↦ absurd (not_in_rest far x xs a (subst (λ (t : ℕ). has xs t ≡ true) (eqb-true z x e) h))
+      | inr k ↦ k
+    ]
+
+pub rising_unique : (far : ℕ → ℕ) (xs ys : List ℕ) → IsRising far xs → IsRising far ys → ((z : ℕ) → has xs z ≡ true → has ys z ≡ true) → ((z : ℕ) → has ys z ≡ true → has xs z ≡ true) → xs ≡ ys
+rising_unique far [] [] r q to from = refl
+rising_unique far [] (y ∷ ys) r q to from = absurd (false≢true (from y (has_here y y ys (eq-eqb y y refl))))
+rising_unique far (x ∷ xs) [] r q to from = absurd (false≢true (to x (has_here x x xs (eq-eqb x x refl))))
+rising_unique far (x ∷ xs) (y ∷ ys) r q to from =
+    let same : x ≡ y = head_least far x y xs ys r q (to x (has_here x x xs (eq-eqb x x refl))) (from y (has_here y y ys (eq-eqb y y refl))) in
+    let q' : IsAfter far x ys = subst (λ (t : ℕ). IsAfter far t ys) (sym same) q.0 in
+    let to' : (z : ℕ) → has (x ∷ xs) z ≡ true → has (x ∷ ys) z ≡ true = λ z h. subst (λ (t : ℕ). has (t ∷ ys) z ≡ true) (sym same) (to z h) in
+    let from' : (z : ℕ) → has (x ∷ ys) z ≡ true → has (x ∷ xs) z ≡ true = λ z h. from z (subst (λ (t : ℕ). has (t ∷ ys) z ≡ true) same h) in
+    ap (λ t. x ∷ t) (rising_unique far xs ys r.1 q.1 (λ z h. in_rest far x z xs ys r.0 to' h) (λ z h. in_rest far x z ys xs q' from' h)) ∙ ap (λ n. n ∷ ys) same
+
+-- Points in order depend on the members of a list alone: not on their places, nor on how often each stands there.
+pub in_order_same : (far : ℕ → ℕ) (xs ys : List ℕ) → ((z : ℕ) → has xs z ≡ has ys z) → in_order far xs ≡ in_order far ys
+in_order_same far xs ys same =
+    rising_unique far (in_order far xs) (in_order far ys) (rising_in_order far xs) (rising_in_order far ys)
+    (λ z h. has_in_order far z ys ∙ sym (same z) ∙ sym (has_in_order far z xs) ∙ h)
+    (λ z h. has_in_order far z xs ∙ same z ∙ sym (has_in_order far z ys) ∙ h)
+
 -- ---- The laws of `top`
+
+-- The n least depend on the members alone.
+pub top_same : (far : ℕ → ℕ) (n : ℕ) (xs ys : List ℕ) → ((z : ℕ) → has xs z ≡ has ys z) → top far n xs ≡ top far n ys
+top_same far n xs ys same = ap (take n) (in_order_same far xs ys same)
 
 -- The n least of the n least are these.
 pub top_idempotent : (far : ℕ → ℕ) (n : ℕ) (xs : List ℕ) → top far n (top far n xs) ≡ top far n xs

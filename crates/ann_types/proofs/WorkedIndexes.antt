@@ -1,5 +1,5 @@
 -- The indexes, the entries and the graphs of the worked examples.
-use Rattle.std.proofs.Common.{ℕ, ◌*◌, ◌/◌, List, [], ◌∷◌, refl, map, lit≤, Some}
+use Rattle.std.proofs.Common.{ℕ, ◌≤◌, ◌*◌, ◌/◌, List, [], ◌∷◌, refl, map, lit≤, Some}
 use Rattle.std.specs.List.{range_with_len}
 use Rattle.ann_types.specs.Codes.{Book}
 use Rattle.ann_types.specs.Index.{Index}
@@ -48,6 +48,23 @@ short_line_index = record { params = short_line; book = identity }
 
 abbrev pub coarse_index : Index
 coarse_index = record { params = line; book = steps_of_16 }
+
+-- the same codebook, at most two neighbours and alpha 1, with walks of this width for new points and graphs that freeze
+-- at this number of points
+abbrev pub coarse : (l_build freeze_at : ℕ) → (1 ≤ l_build) × (l_build ≤ 1000) → (1 ≤ freeze_at) × (freeze_at ≤ 100000) → Index
+coarse l_build freeze_at width freeze = record { params = record { d = 1; r = 2; l_build = l_build; a = 1; b = 1; w = 1; m = 1; freeze_at = freeze_at; in_limits = record { code_bytes = (lit≤ tt, lit≤ tt); components = (lit≤ tt, lit≤ tt); parts = refl; neighbours = (lit≤ tt, lit≤ tt); width = width; alpha = (lit≤ tt, lit≤ tt, lit≤ tt); beam = (lit≤ tt, lit≤ tt); freeze = freeze } }; book = steps_of_16 }
+
+abbrev pub walk_1_freeze_2 : Index
+walk_1_freeze_2 = coarse 1 2 (lit≤ tt, lit≤ tt) (lit≤ tt, lit≤ tt)
+
+abbrev pub walk_2_freeze_2 : Index
+walk_2_freeze_2 = coarse 2 2 (lit≤ tt, lit≤ tt) (lit≤ tt, lit≤ tt)
+
+abbrev pub walk_1_freeze_100 : Index
+walk_1_freeze_100 = coarse 1 100 (lit≤ tt, lit≤ tt) (lit≤ tt, lit≤ tt)
+
+abbrev pub walk_2_freeze_100 : Index
+walk_2_freeze_100 = coarse 2 100 (lit≤ tt, lit≤ tt) (lit≤ tt, lit≤ tt)
 
 -- the entries of one client over the empty base
 abbrev pub list : List Entry → BasedList

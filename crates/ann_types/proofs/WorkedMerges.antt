@@ -9,7 +9,7 @@ use Rattle.ann_types.specs.Lists.{BasedList, length_of, next_pid, live_of}
 use Rattle.ann_types.specs.Fold.{fold_of}
 use Rattle.ann_types.specs.Legal.{is_legal, has_work}
 use Rattle.ann_types.specs.Answer.{hits}
-use Rattle.ann_types.proofs.WorkedIndexes.{line_index, coarse_index, identity, steps_of_16, list, insert_at, delete, begin, end, point, graph, hit_at}
+use Rattle.ann_types.proofs.WorkedIndexes.{line_index, coarse_index, walk_1_freeze_2, identity, steps_of_16, list, insert_at, delete, begin, end, point, graph, hit_at}
 
 -- a code names the nearest centroid, and the lower one on a tie
 pub code_of_ten : code steps_of_16 (10 ∷ []) ≡ 16 ∷ []
@@ -55,6 +55,12 @@ pub inside_leaves_work : has_work (fold_of line_index delete_inside_a_merge) ≡
 unfolding put identity delete_phase base_of insert_phase patch_phase merged
 inside_leaves_work = refl
 
+-- a graph that freezes between Begin and End isn't the merge's: the End drops the graphs that the Begin found, and
+-- leaves this one
+pub end_drops_the_kept_graphs_alone : (fold_of walk_1_freeze_2 (list (insert_at 1 48 ∷ begin ∷ insert_at 2 3 ∷ insert_at 3 58 ∷ end 3 ∷ []))).ros ≡ graph 1 (point 1 2 (3 ∷ []) (2 ∷ []) ∷ point 2 3 (58 ∷ []) (1 ∷ []) ∷ []) ∷ []
+unfolding put steps_of_16 delete_phase base_of insert_phase patch_phase merged
+end_drops_the_kept_graphs_alone = refl
+
 -- the second merge has no survivor, so its base is made of the new points
 abbrev pub two_merges : BasedList
 two_merges = list (insert_at 1 10 ∷ insert_at 2 20 ∷ begin ∷ end 5 ∷ delete 1 ∷ delete 2 ∷ insert_at 3 30 ∷ insert_at 4 40 ∷ insert_at 5 50 ∷ begin ∷ end 19 ∷ [])
@@ -88,6 +94,9 @@ pub linked_through_the_deleted : (fold_of line_index merge_of_a_delete).lti ≡ 
 unfolding put identity delete_phase base_of insert_phase patch_phase merged
 linked_through_the_deleted = refl
 
+pub merge_of_a_delete_length : length_of merge_of_a_delete ≡ 8
+merge_of_a_delete_length = refl
+
 pub merge_of_a_delete_answer : hits line_index (fold_of line_index merge_of_a_delete) 2 4 (30 ∷ []) ≡ hit_at 3 0 ∷ hit_at 1 400 ∷ []
 unfolding put hits identity delete_phase base_of insert_phase patch_phase merged
 merge_of_a_delete_answer = refl
@@ -99,6 +108,13 @@ merge_of_two_new = list (insert_at 1 10 ∷ insert_at 2 30 ∷ begin ∷ end 5 �
 pub merge_of_two_new_is_legal : is_legal line_index merge_of_two_new ≡ true
 unfolding put identity delete_phase base_of insert_phase patch_phase merged
 merge_of_two_new_is_legal = refl
+
+pub merge_of_two_new_length : length_of merge_of_two_new ≡ 8
+merge_of_two_new_length = refl
+
+pub new_points_are_linked_to_the_base_alone : (fold_of line_index merge_of_two_new).lti ≡ graph 2 (point 0 1 (10 ∷ []) (2 ∷ []) ∷ point 1 2 (30 ∷ []) (3 ∷ []) ∷ point 2 3 (20 ∷ []) (0 ∷ 1 ∷ []) ∷ point 3 4 (21 ∷ []) (0 ∷ 1 ∷ []) ∷ [])
+unfolding put identity delete_phase base_of insert_phase patch_phase merged
+new_points_are_linked_to_the_base_alone = refl
 
 pub narrow_search_ends_at_the_one : hits line_index (fold_of line_index merge_of_two_new) 1 1 (21 ∷ []) ≡ hit_at 3 1 ∷ []
 unfolding put hits identity delete_phase base_of insert_phase patch_phase merged
@@ -115,6 +131,9 @@ merge_of_nothing_left = list (insert_at 1 10 ∷ delete 1 ∷ begin ∷ end 5 �
 pub merge_of_nothing_left_is_legal : is_legal line_index merge_of_nothing_left ≡ true
 unfolding put identity delete_phase base_of insert_phase patch_phase merged
 merge_of_nothing_left_is_legal = refl
+
+pub merge_of_nothing_left_length : length_of merge_of_nothing_left ≡ 4
+merge_of_nothing_left_length = refl
 
 pub nothing_left_graph : (fold_of line_index merge_of_nothing_left).lti ≡ empty_graph
 unfolding put identity delete_phase base_of insert_phase patch_phase merged

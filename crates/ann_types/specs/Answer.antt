@@ -1,5 +1,5 @@
--- What a search finds (DiskANN, section 3.5, exact distances at the end; FreshDiskANN, section 5.2, all
--- graphs without the deleted points).
+-- What a search finds: the nearest points of all graphs, without the deleted ones (Search of FreshDiskANN), by exact
+-- distances at the end (DiskANN, section 3.5).
 use Rattle.std.specs.Prelude.{ℕ, List, ◌++◌, map, flat_map}
 use Rattle.ann_types.specs.Order.{top}
 use Rattle.ann_types.specs.Graph.{Point, Graph, tag_of, far_from, near_to}
@@ -29,6 +29,6 @@ hits index s k width query =
     let points : List Point = all_points s in
     map (hit points query) (top (far_from points query) k (without s.dead (found index s query width)))
 
--- Answer(h, ask); it stands at the length of h
+-- Answer(h, ask); the place of an answer is the length of h, `length_of h`, and isn't told here
 abbrev pub answer : Index → BasedList → Ask → List Hit
 answer index h ask = hits index (fold_of index h) ask.k ask.l ask.vector

@@ -8,7 +8,7 @@ use Rattle.ann_types.specs.Graph.{Point, Graph, with_vector}
 abbrev pub Book : Type 0
 Book = List (List (List ℕ))
 
--- the least of some numbers
+-- the least of some numbers, 0 where there are none
 abbrev pub least : List ℕ → ℕ
 least [] = 0
 least (n ∷ []) = n

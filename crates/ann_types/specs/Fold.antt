@@ -1,5 +1,5 @@
--- What a list of entries leaves: the graphs in memory, the long-term graph and the delete list
--- (FreshDiskANN, section 5.1).
+-- What a list of entries leaves: the graphs in memory, the long-term graph and the delete list, which are the
+-- components of FreshDiskANN.
 use Rattle.std.specs.Prelude.{ℕ, List, [], ◌∷◌, ◌++◌, ◌==◌, Option, Some, None, not, map, filter, flat_map, take, drop, length, if◌then◌else◌}
 use Rattle.ann_types.specs.Order.{has, ascending}
 use Rattle.ann_types.specs.Graph.{Point, Graph, empty_graph, is_empty}
@@ -12,8 +12,8 @@ use Rattle.ann_types.specs.declared.new_point.NewPoint.{NewPoint}
 use Rattle.ann_types.specs.declared.entry.Entry.{Entry}
 use Rattle.ann_types.specs.declared.entry.Entry.TheVariants.{Insert, Delete, Begin, End, Replace}
 
--- an open Begin: its position, and what its merge takes, the first so many frozen graphs and the deleted
--- points of that moment
+-- an open Begin: its position, and what its merge takes: how many of the frozen graphs, counted from the oldest, and
+-- which deleted points
 pub record Begun : Type 0 where
   pub position : ℕ
   pub frozen : ℕ
@@ -41,14 +41,15 @@ alive_of s = filter (λ e. not (has s.dead e.1)) (names_of (all_points s))
 abbrev pub start : Graph → State
 start graph = record { rw = empty_graph; ros = []; lti = graph; dead = []; begun = None }
 
--- the graph that takes new points goes to the end of the frozen ones, and an empty one takes its place
+-- a graph goes to the end of the frozen ones, and the graph that takes new points is empty
 abbrev pub frozen : State → Graph → State
 frozen s graph = record s { rw = empty_graph; ros = s.ros ++ graph ∷ [] }
 
--- a point is put into `rw`, which freezes where it then has freeze_at points
+-- this graph in the place of `rw`; it freezes where it has freeze_at points
 abbrev pub grown : Params → State → Graph → State
 grown params s graph = if length graph.points == params.freeze_at then frozen s graph else record s { rw = graph }
 
+-- a point is put into `rw`
 abbrev pub inserted : Params → State → ℕ → ℕ → List ℕ → State
 inserted params s n tag vector = grown params s (put params s.rw n tag vector)
 
@@ -56,29 +57,30 @@ inserted params s n tag vector = grown params s (put params s.rw n tag vector)
 abbrev pub deleted : State → List ℕ → State
 deleted s pids = record s { dead = ascending (s.dead ++ pids) }
 
--- a Begin at a position freezes a `rw` that isn't empty, and keeps the number of frozen graphs and the
--- deleted points of that moment
+-- a Begin at a position is open, and keeps the number of frozen graphs and the deleted points of this moment
 abbrev pub opened : State → ℕ → State
 opened s position =
     record s { begun = Some (record { position = position; frozen = length s.ros; gone = s.dead }) }
 
+-- a Begin at a position: a `rw` that isn't empty freezes first
 abbrev pub begun_at : State → ℕ → State
 begun_at s position = opened (if is_empty s.rw then s else frozen s s.rw) position
 
--- the points that a merge adds: those of its frozen graphs that aren't among its deleted points
+-- a point as a merge takes it, without its neighbours
 abbrev pub new_point : Point → NewPoint
 new_point x = record { pid = x.pid; tag = x.tag; vector = x.vector }
 
+-- the points that a merge adds: those of its frozen graphs that aren't among its deleted points
 abbrev pub new_points : State → Begun → List NewPoint
 new_points s b = map new_point (survivors b.gone (flat_map (λ (g : Graph). g.points) (take b.frozen s.ros)))
 
--- the long-term graph that the open merge makes
+-- the long-term graph that the open merge makes; without an open Begin it is the one that is there
 abbrev pub merge_of : Index → State → Option Begun → Graph
 merge_of index s None = s.lti
 merge_of index s (Some b) = merged index s.lti (new_points s b) b.gone
 
--- an End puts a new long-term graph in the place of the old one; the graphs and the deleted points that
--- its merge took leave
+-- an End puts a new long-term graph in the place of the old one; the graphs and the deleted points that its merge took
+-- leave. Without an open Begin it changes nothing
 abbrev pub switched : State → Graph → Option Begun → State
 switched s lti None = s
 switched s lti (Some b) =

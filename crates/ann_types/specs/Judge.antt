@@ -40,8 +40,8 @@ judge params h (Insert tag vector) = judge_vector params h vector (judge_new h t
 judge params h (Delete tag) = judge_live h tag
 judge params h (Replace tag vector) = judge_vector params h vector (judge_live h tag)
 
--- JudgeAll(h, changes): each change of a client's update after h and the entries of the changes before it;
--- the first refusal with its index, or none
+-- JudgeAll(h, changes): each change of an update after h and the entries of the changes before it; the first refusal
+-- with its index, which counts from 0, or none. The client is the one that the entries of earlier changes name
 abbrev pub judge_from : Params → BasedList → ℕ → ℕ → List Change → Option (ℕ × Refusal)
 judge_from params h by index [] = None
 judge_from params h by index (c ∷ cs) = elim (judge params h c) [

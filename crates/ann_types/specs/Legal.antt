@@ -1,8 +1,8 @@
 -- Which lists of entries an index may hold.
-use Rattle.std.specs.Prelude.{ℕ, ◌+◌, ◌-◌, ◌*◌, ◌^◌, Bool, true, false, List, [], ◌∷◌, ◌==◌, ◌&&◌, ◌||◌, nat_lt, not, Option, Some, None, is_none, length}
+use Rattle.std.specs.Prelude.{◌≡◌, ℕ, ◌+◌, ◌-◌, ◌*◌, ◌^◌, Bool, true, false, List, [], ◌∷◌, ◌==◌, ◌&&◌, ◌||◌, nat_lt, not, Option, Some, None, is_none, length}
 use Rattle.ann_types.specs.Graph.{is_empty}
 use Rattle.ann_types.specs.Index.{Index}
-use Rattle.ann_types.specs.Lists.{BasedList, bare, with_entry, next_pid, is_live, live_of}
+use Rattle.ann_types.specs.Lists.{BasedList, IsBaseOf, bare, with_entry, next_pid, is_live, live_of}
 use Rattle.ann_types.specs.Fold.{Begun, State, start, step}
 use Rattle.ann_types.specs.declared.params.Params.{Params}
 use Rattle.ann_types.specs.declared.entry.Entry.{Entry}
@@ -38,6 +38,11 @@ abbrev pub legal_from : Index → BasedList → State → List Entry → Bool
 legal_from index h s [] = true
 legal_from index h s (e ∷ es) = may_follow index.params h s e && legal_from index (with_entry h e) (step index h s e) es
 
--- a list is legal where each of its entries may follow those before it
+-- the entries of a list are legal where each may follow those before it; of the base nothing is asked here
 abbrev pub is_legal : Index → BasedList → Bool
 is_legal index h = legal_from index (bare h.base) (start h.base.graph) h.entries
+
+-- a list that an index may hold: a base of the index, and legal entries on it
+pub record IsLegal (index : Index) (h : BasedList) : Type 0 where
+  pub base : IsBaseOf index.params h.base
+  pub entries : is_legal index h ≡ true

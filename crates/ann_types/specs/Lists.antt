@@ -1,4 +1,4 @@
--- Lists of entries on a base: a log as its readers see it (the redo log of FreshDiskANN, section 5.4).
+-- Lists of entries on a base: a log as its readers see it (the redo log of FreshDiskANN).
 use Rattle.std.specs.Prelude.{◌≡◌, ◌≢◌, ℕ, ◌<◌, ◌+◌, ◌-◌, Bool, true, false, List, [], ◌∷◌, ◌++◌, ◌==◌, not, map, filter, take, length, count_by, All, AllPairs, if◌then◌else◌}
 use Rattle.std.specs.List.{list_any}
 use mathlib.Core.List.{IsPrefix}

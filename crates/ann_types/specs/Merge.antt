@@ -1,5 +1,5 @@
--- The merge of new points into the long-term graph (StreamingMerge of FreshDiskANN, section 5.3). All
--- distances are between decoded vectors, save that a new point's walk is for its own vector.
+-- The merge of new points into the long-term graph (StreamingMerge of FreshDiskANN). All distances are between decoded
+-- vectors, save that a new point outside the base walks for its own vector.
 use Rattle.std.specs.Prelude.{ℕ, ◌/◌, List, [], ◌∷◌, ◌++◌, ◌==◌, not, Option, map, filter, flat_map, fold, take, drop, length, sum_by, slice_get, slice_index, if◌then◌else◌}
 use Rattle.std.specs.List.{list_any, range_with_len}
 use Rattle.ann_types.specs.Order.{has, top, ascending}
@@ -20,8 +20,8 @@ without gone set = filter (λ p. not (has gone p)) set
 abbrev pub survivors : List ℕ → List Point → List Point
 survivors gone points = filter (λ x. not (has gone x.pid)) points
 
--- what stands in for the deleted neighbours of a point: its neighbours and those of each deleted one,
--- without deleted points and without itself
+-- the candidates for a point's new neighbours: its neighbours and those of each deleted one, without deleted points
+-- and without itself
 abbrev pub candidates : List Point → List ℕ → Point → List ℕ
 candidates points gone x =
     without (x.pid ∷ gone) (x.links ++ flat_map (links_of points) (filter (has gone) x.links))
@@ -125,7 +125,7 @@ patch_phase index base new =
     let known : List Point = decoded_points index.book (base ++ new) in
     entered index (map (patched (rule_of index.params) (apart_in known) new) base ++ new)
 
--- Merged(lti, new, X): the three phases in turn
+-- Merged(lti, new, X): delete phase, base, insert phase and patch phase in turn
 unfoldable pub merged : Index → Graph → List NewPoint → List ℕ → Graph
 merged index lti new gone =
     let left : List Point = delete_phase index lti.points gone in

@@ -1,4 +1,4 @@
--- A graph with one more point (Insert of FreshVamana; FreshDiskANN, section 4).
+-- A graph with one more point (Insert of FreshDiskANN).
 use Rattle.std.specs.Prelude.{ℕ, List, [], ◌∷◌, ◌++◌, Some, map, unwrap_or, if◌then◌else◌}
 use Rattle.ann_types.specs.Order.{has, ascending}
 use Rattle.ann_types.specs.Kept.{Rule, rule_of, kept, within}

@@ -9,7 +9,7 @@ use Rattle.ann_types.specs.Codes.{Book, decoded_points}
 abbrev pub round : Ground → ℕ → ℕ → List ℕ → List ℕ
 round g width w visited = take w (filter (λ p. not (has visited p)) (near g width visited))
 
--- the visited points with rounds appended until one is empty, at most n of them
+-- the visited points with rounds appended until one is empty, at most n rounds
 abbrev pub rounds_on : Ground → ℕ → ℕ → ℕ → List ℕ → List ℕ
 rounds_on g width w zero visited = visited
 rounds_on g width w (suc n) visited = elim (round g width w visited) [

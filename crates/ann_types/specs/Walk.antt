@@ -28,7 +28,7 @@ walk_on g width (suc n) visited = elim (next g width visited) [
   | Some p ↦ walk_on g width n (visited ++ p ∷ [])
 ]
 
--- Visited: the points that a walk visits in a graph of this many points, in order of visit; they differ,
--- so none is left out
+-- Visited: the points that a walk visits in a graph of this many points, in order of visit; in a
+-- graph they differ, so as many turns as points leave none out
 abbrev pub visited_of : Ground → ℕ → ℕ → List ℕ
 visited_of g width count = walk_on g width count []

@@ -8,7 +8,7 @@ use crate::vector::Vector;
 pub struct Ask {
     /// How many points are wanted.
     pub k: u16,
-    /// The width of the candidate list (the search list size of DiskANN, section 2.2).
+    /// The width of the candidate list (the search list size L of GreedySearch; DiskANN, section 2.1).
     pub l: u16,
     /// The query.
     pub vector: Vector,

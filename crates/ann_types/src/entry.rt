@@ -8,7 +8,7 @@ pub enum Entry {
     Insert { by: u32, tag: Tag, vector: Vector },
     /// A live tag is taken away.
     Delete { by: u32, tag: Tag },
-    /// A merge begins (FreshDiskANN, section 5.3): what stands before it goes into the next long-term graph.
+    /// A merge begins (StreamingMerge of FreshDiskANN): what stands before it goes into the next long-term graph.
     Begin { by: u32 },
     /// The open merge ends, and its long-term graph is the one in this segment.
     End { by: u32, segment: u64 },

@@ -6,19 +6,19 @@ ghost use Rattle.ann_types.specs.Limits.{IsWithinLimits};
 pub struct Params {
     /// Components of a vector: 1 to 1024, a multiple of `m`.
     pub d: u16,
-    /// The greatest number of neighbours of a point (R of DiskANN, section 2.3): 2 to 128.
+    /// The greatest number of neighbours of a point (R of RobustPrune; DiskANN, section 2.2): 2 to 128.
     pub r: u16,
-    /// The width of the walks that link new points (L of DiskANN, section 2.3): 1 to 1000.
+    /// The width of the walks that link new points (L of Vamana; DiskANN, section 2.3): 1 to 1000.
     pub l_build: u16,
-    /// Numerator of alpha (DiskANN, section 2.3): 1 to 100.
+    /// Numerator of alpha (RobustPrune; DiskANN, section 2.2): 1 to 100.
     pub a: u16,
     /// Denominator of alpha: 1 to `a`.
     pub b: u16,
-    /// The beam's width (W of DiskANN, section 3.3): 1 to 16.
+    /// The beam's width (W of BeamSearch; DiskANN, section 3.3): 1 to 16.
     pub w: u16,
     /// Bytes of a code, one for each part of a vector: 1 to 64.
     pub m: u16,
-    /// The points at which the graph in memory freezes (FreshDiskANN, section 5.1): 1 to 100,000.
+    /// How many points a graph in memory has when it freezes (a RO-TempIndex of FreshDiskANN): 1 to 100,000.
     pub freeze_at: u32,
     pub ghost in_limits: { IsWithinLimits d r l_build a b w m freeze_at },
 }

@@ -1,0 +1,248 @@
+-- What the grammar leaves of a script: plain commands, at most one insert of a client, no more commands than lines.
+use Rattle.std.proofs.Common.{◌≡◌, ℕ, ◌+◌, ◌-◌, ◌<◌, ◌≤◌, ◌^◌, Bool, true, false, cond, List, [], ◌∷◌, ◌++◌, ◌&&◌, refl, sym, ap, subst, ◌∙◌, arith, length, ◌⊎◌, inl, inr}
+use Rattle.std.specs.Prelude.{Option, None, Some, Result, Ok, Err, take, nat_lt, nat_le, codes}
+use Rattle.std.specs.List.{AllByRecursion, list_any}
+use Rattle.std.specs.Str.{bytes_eq}
+use Rattle.std.specs.Str.Lines.{strip_carriage_return}
+use Rattle.std.proofs.lemmas.Bool.{true≢false, and_cases, or_parts, leb-true}
+use Rattle.std.proofs.lemmas.List.Splits.{length-slice_split}
+use Rattle.std.proofs.lemmas.List.Sums.{count_by-le-length}
+use Rattle.ann_types.specs.declared.change.Change.{Change}
+use Rattle.ann_types.specs.declared.change.Change.TheVariants.{Insert}
+use Rattle.ann_script.specs.Words.{number_of, words}
+use Rattle.ann_script.specs.Order.{Order, Apply, Find}
+use Rattle.ann_script.specs.Grammar as grammar
+use Rattle.ann_script.specs.Grammar.{Line, Silent, Says, Bad}
+use Rattle.ann_script.specs.Script.{Client, added, is_insert, is_too_much, said, line_said, Whole, Long, lines_said, lines, is_line_feed, text_said, script_of, limit}
+use Rattle.ann_program.specs.Points.{insertions, all_insertions, IsPlain, IsServable, lines_limit}
+
+none_some : {A : Type 0} (x : A) → None ≡ Some x → ⊥
+none_some x e = cc
+
+some_is : {A : Type 0} (x y : A) → Some x ≡ Some y → x ≡ y
+some_is x y e = cc
+
+-- what a step and the next one gave
+bound : {A B : Type 0} (o : Option A) (f : A → Option B) (y : B) → grammar.◌>>=◌ o f ≡ Some y → (x : A) × (o ≡ Some x) × (f x ≡ Some y)
+bound None f y e = absurd (none_some y e)
+bound (Some x) f y e = (x, refl, e)
+
+-- which branch gave it
+chosen : {A : Type 0} (b : Bool) (x y : Option A) (z : A) → cond b x y ≡ Some z → (x ≡ Some z) ⊎ (y ≡ Some z)
+chosen true x y z e = inl e
+chosen false x y z e = inr e
+
+-- ---- Commands are plain
+
+insert_is : (operands : List (List ℕ)) (change : Change) → grammar.insert operands ≡ Some change → (tag : ℕ) × (vector : List ℕ) × (change ≡ Insert tag vector)
+insert_is [] change e = absurd (none_some change e)
+insert_is (tag ∷ rest) change e =
+    let t = bound (number_of (2 ^ 64 - 1) tag) _ change e in
+    let v = bound (grammar.vector rest) _ change t.2 in
+    (t.0, v.0, sym (some_is (Insert t.0 v.0) change v.2))
+
+apply_plain : (operands : List (List ℕ)) (order : Order) → grammar.◌>>=◌ (grammar.insert operands) (λ change. Some (Apply (change ∷ []) false)) ≡ Some order → IsPlain order
+apply_plain operands order e =
+    let c = bound (grammar.insert operands) _ order e in
+    let i = insert_is operands c.0 c.1 in
+    subst IsPlain (some_is (Apply (c.0 ∷ []) false) order c.2) (i.0, i.1, ap (λ (x : Change). x ∷ []) i.2, refl)
+
+is_find : (o : Option Order) (order : Order) → o ≡ Some order → ((found : Order) → o ≡ Some found → IsPlain found) → IsPlain order
+is_find o order e each = each order e
+
+search_plain : (operands : List (List ℕ)) (order : Order) → grammar.search_of operands ≡ Some order → IsPlain order
+search_plain [] order e = absurd (none_some order e)
+search_plain (k ∷ []) order e = absurd (none_some order e)
+search_plain (k ∷ l ∷ rest) order e =
+    let wanted = bound (number_of 1000 k) _ order e in
+    let width = bound (number_of 1000 l) _ order wanted.2 in
+    let v = bound (grammar.vector rest) _ order width.2 in
+    elim (chosen (nat_le 1 wanted.0 && nat_le wanted.0 width.0) (Some (Find wanted.0 width.0 v.0)) None order v.2) [
+      | inl found ↦ subst IsPlain (some_is (Find wanted.0 width.0 v.0) order found) tt
+      | inr none ↦ absurd (none_some order none)
+    ]
+
+command_plain : (rest : List (List ℕ)) (order : Order) → grammar.command rest ≡ Some order → IsPlain order
+command_plain [] order e = absurd (none_some order e)
+command_plain (verb ∷ operands) order e =
+    elim (chosen (bytes_eq verb (codes "insert")) _ _ order e) [
+      | inl insert ↦ apply_plain operands order insert
+      | inr other ↦ elim (chosen (bytes_eq verb (codes "search")) (grammar.search_of operands) None order other) [
+        | inl search ↦ search_plain operands order search
+        | inr none ↦ absurd (none_some order none)
+      ]
+    ]
+
+-- ---- A command more
+
+insertions_few : (order : Order) → insertions order ≤ 1
+insertions_few (Apply changes batch) = omega arith
+insertions_few (Find k l vector) = omega arith
+
+-- a plain command that is no insert inserts nothing
+no_insert : (order : Order) → IsPlain order → is_insert order ≡ false → insertions order ≡ 0
+no_insert (Apply changes batch) plain e = absurd (true≢false (sym (ap (λ changes. is_insert (Apply changes batch)) plain.2) ∙ e))
+no_insert (Find k l vector) plain e = refl
+
+no_inserts : (orders : List Order) → AllByRecursion IsPlain orders → list_any is_insert orders ≡ false → all_insertions orders ≡ 0
+no_inserts [] plain e = refl
+no_inserts (order ∷ orders) plain e =
+    let parts = or_parts (is_insert order) (list_any is_insert orders) e in
+    omega (arith, no_insert order plain.0 parts.0, no_inserts orders plain.1 parts.1)
+
+all_plain_last : (orders : List Order) (order : Order) → AllByRecursion IsPlain orders → IsPlain order → AllByRecursion IsPlain (orders ++ order ∷ [])
+all_plain_last [] order plain one = (one, tt)
+all_plain_last (first ∷ orders) order plain one = (plain.0, all_plain_last orders order plain.1 one)
+
+insertions_last : (orders : List Order) (order : Order) → all_insertions (orders ++ order ∷ []) ≡ all_insertions orders + insertions order
+insertions_last [] order = omega arith
+insertions_last (first ∷ orders) order = omega (arith, insertions_last orders order)
+
+length_last : (orders : List Order) (order : Order) → length (orders ++ order ∷ []) ≡ length orders + 1
+length_last [] order = refl
+length_last (first ∷ orders) order = omega (arith, length_last orders order)
+
+-- a client with one more command
+client_more : (most : ℕ) (client : Client) (order : Order) → IsPlain order → (is_insert order ≡ false) ⊎ (list_any is_insert client.orders ≡ false) → IsServable most client → IsServable (most + 1) (record client { orders = client.orders ++ order ∷ [] })
+client_more most client order one room s = record {
+  plain = all_plain_last client.orders order s.plain one;
+  few = elim room [
+    | inl e ↦ omega (arith, insertions_last client.orders order, no_insert order one e, s.few)
+    | inr e ↦ omega (arith, insertions_last client.orders order, no_inserts client.orders s.plain e, insertions_few order)
+  ];
+  short = omega (arith, length_last client.orders order, s.short);
+}
+
+client_new : (most : ℕ) (name : List ℕ) (order : Order) → IsPlain order → IsServable (most + 1) (record { name = name; orders = order ∷ [] })
+client_new most name order one = record {
+  plain = (one, tt);
+  few = omega (arith, insertions_few order);
+  short = omega arith;
+}
+
+client_weaker : (most : ℕ) (client : Client) → IsServable most client → IsServable (most + 1) client
+client_weaker most client s = record { plain = s.plain; few = s.few; short = omega (arith, s.short) }
+
+all_weaker : (most : ℕ) (clients : List Client) → AllByRecursion (IsServable most) clients → AllByRecursion (IsServable (most + 1)) clients
+all_weaker most [] s = tt
+all_weaker most (client ∷ clients) s = (client_weaker most client s.0, all_weaker most clients s.1)
+
+has_insert : Client → Bool
+has_insert client = list_any is_insert client.orders
+
+first_room : (order : Order) (client : Client) (others : List Client) → (is_insert order ≡ false) ⊎ (list_any (λ c. list_any is_insert c.orders) (client ∷ others) ≡ false) → ((is_insert order ≡ false) ⊎ (list_any is_insert client.orders ≡ false)) × ((is_insert order ≡ false) ⊎ (list_any (λ c. list_any is_insert c.orders) others ≡ false))
+first_room order client others (inl e) = (inl e, inl e)
+first_room order client others (inr e) =
+    let parts = or_parts (list_any is_insert client.orders) (list_any (λ c. list_any is_insert c.orders) others) e in
+    (inr parts.0, inr parts.1)
+
+added_servable : (most room : ℕ) (clients : List Client) (name : List ℕ) (order : Order) (more : List Client) → added room clients name order ≡ Some more → IsPlain order → (is_insert order ≡ false) ⊎ (list_any (λ c. list_any is_insert c.orders) clients ≡ false) → AllByRecursion (IsServable most) clients → AllByRecursion (IsServable (most + 1)) more
+added_servable most room [] name order more e one free s =
+    elim (chosen (nat_lt 0 room) (Some (record { name = name; orders = order ∷ [] } ∷ [])) None more e) [
+      | inl is ↦ subst (AllByRecursion (IsServable (most + 1))) (some_is (record { name = name; orders = order ∷ [] } ∷ []) more is) (client_new most name order one, tt)
+      | inr none ↦ absurd (none_some more none)
+    ]
+added_servable most room (client ∷ others) name order more e one free s =
+    let rooms = first_room order client others free in
+    elim (chosen (bytes_eq client.name name) _ _ more e) [
+      | inl is ↦ subst (AllByRecursion (IsServable (most + 1))) (some_is (record client { orders = client.orders ++ order ∷ [] } ∷ others) more is) (client_more most client order one rooms.0 s.0, all_weaker most others s.1)
+      | inr other ↦
+          let rest = bound (added (room - 1) others name order) _ more other in
+          subst (AllByRecursion (IsServable (most + 1))) (some_is (client ∷ rest.0) more rest.2) (client_weaker most client s.0, added_servable most (room - 1) others name order rest.0 rest.1 one rooms.1 s.1)
+    ]
+
+-- ---- A line more
+
+one_more_if : (b : Bool) (x y : Option (List Client)) (z : List Client) → cond b x y ≡ Some z → x ≡ None → (b ≡ false) × (y ≡ Some z)
+one_more_if true x y z e none = absurd (none_some z (sym none ∙ e))
+one_more_if false x y z e none = (refl, e)
+
+line_servable : (most room : ℕ) (clients : List Client) (line : Line) (more : List Client) → ((name : List ℕ) (order : Order) → line ≡ Says name order → IsPlain order) → line_said room clients line ≡ Some more → AllByRecursion (IsServable most) clients → AllByRecursion (IsServable (most + 1)) more
+line_servable most room clients Silent more plain e s = subst (AllByRecursion (IsServable (most + 1))) (some_is clients more e) (all_weaker most clients s)
+line_servable most room clients (Says name order) more plain e s =
+    let kept = one_more_if (is_too_much clients order) None (added room clients name order) more e refl in
+    added_servable most room clients name order more kept.1 (plain name order refl) (and_cases (is_insert order) _ kept.0) s
+line_servable most room clients Bad more plain e s = absurd (none_some more e)
+
+line_if : (b : Bool) (x y : Line) (P : Line → Type 0) → P x → P y → P (cond b x y)
+line_if true x y P p q = p
+line_if false x y P p q = q
+
+abbrev pub IsPlainLine : Line → Type 0
+IsPlainLine line = (name : List ℕ) (order : Order) → line ≡ Says name order → IsPlain order
+
+silent_plain : IsPlainLine Silent
+silent_plain name order e = absurd cc
+
+bad_plain : IsPlainLine Bad
+bad_plain name order e = absurd cc
+
+says_is : (name name' : List ℕ) (order order' : Order) → Says name order ≡ Says name' order' → order ≡ order'
+says_is name name' order order' e = cc
+
+command_line : (word : List ℕ) (o : Option Order) → ((order : Order) → o ≡ Some order → IsPlain order) → IsPlainLine (elim o [ None ↦ Bad | Some order ↦ Says word order ])
+command_line word None plain = bad_plain
+command_line word (Some order) plain = λ name order' e. subst IsPlain (says_is word name order order' e) (plain order refl)
+
+words_plain : (words : List (List ℕ)) → IsPlainLine (grammar.line_of_words words)
+words_plain [] = silent_plain
+words_plain (word ∷ rest) =
+    line_if (grammar.is_comment word) Silent _ IsPlainLine silent_plain
+    (line_if (grammar.is_name word) _ Bad IsPlainLine (command_line word (grammar.command rest) (command_plain rest)) bad_plain)
+
+line_plain : (line : List ℕ) → IsPlainLine (grammar.line_of line)
+line_plain line = words_plain (words (strip_carriage_return line))
+
+said_servable : (most room : ℕ) (clients : List Client) (line : List ℕ) (more : List Client) → said room clients line ≡ Some more → AllByRecursion (IsServable most) clients → AllByRecursion (IsServable (most + 1)) more
+said_servable most room clients line more e s = line_servable most room clients (grammar.line_of line) more (line_plain line) e s
+
+-- ---- A script
+
+went_on : (o : Option (List Client)) (number : ℕ) (f : List Client → Result (List Client) ℕ) (script : List Client) → (elim o as (λ _. Result (List Client) ℕ) [ None ↦ Err number | Some more ↦ f more ]) ≡ Ok script → (more : List Client) × (o ≡ Some more) × (f more ≡ Ok script)
+went_on None number f script e = absurd cc
+went_on (Some more) number f script e = (more, refl, e)
+
+ok_is : (x y : List Client) (result : Result (List Client) ℕ) → result ≡ Ok x → result ≡ Ok y → x ≡ y
+ok_is x y result first second = cc
+
+lines_servable : (most room : ℕ) (clients : List Client) (number : ℕ) (lines : List (List ℕ)) (script : List Client) → lines_said room Whole clients number lines ≡ Ok script → AllByRecursion (IsServable most) clients → AllByRecursion (IsServable (most + length lines)) script
+lines_servable most room clients number [] script e s = subst (λ (m : ℕ). AllByRecursion (IsServable m) script) (omega arith) (subst (AllByRecursion (IsServable most)) (ok_is clients script (Ok clients) refl e) s)
+lines_servable most room clients number (line ∷ []) script e s =
+    let more = went_on (said room clients line) number (λ more. Ok more) script e in
+    subst (AllByRecursion (IsServable (most + 1))) (ok_is more.0 script (Ok more.0) refl more.2) (said_servable most room clients line more.0 more.1 s)
+lines_servable most room clients number (line ∷ next ∷ others) script e s =
+    let more = went_on (said room clients line) number (λ more. lines_said room Whole more (number + 1) (next ∷ others)) script e in
+    subst (λ (m : ℕ). AllByRecursion (IsServable m) script) (omega arith) (lines_servable (most + 1) room more.0 (number + 1) (next ∷ others) script more.2 (said_servable most room clients line more.0 more.1 s))
+
+-- a text with a byte past the limit is at fault in some line
+long_faulty : (room : ℕ) (clients : List Client) (number : ℕ) (line : List ℕ) (others : List (List ℕ)) (script : List Client) → lines_said room Long clients number (line ∷ others) ≡ Ok script → ⊥
+long_faulty room clients number line [] script e = cc
+long_faulty room clients number line (next ∷ others) script e =
+    let more = went_on (said room clients line) number (λ more. lines_said room Long more (number + 1) (next ∷ others)) script e in
+    long_faulty room more.0 (number + 1) next others script more.2
+
+long_text_faulty : (room : ℕ) (parts : List (List ℕ)) (script : List Client) → 0 < length parts → lines_said room Long [] 1 parts ≡ Ok script → ⊥
+long_text_faulty room [] script some e = absurd (omega arith)
+long_text_faulty room (line ∷ others) script some e = long_faulty room [] 1 line others script e
+
+all_within : (most more : ℕ) (clients : List Client) → most ≤ more → AllByRecursion (IsServable most) clients → AllByRecursion (IsServable more) clients
+all_within most more [] within s = tt
+all_within most more (client ∷ clients) within s = (record { plain = s.0.plain; few = s.0.few; short = omega (arith, s.0.short) }, all_within most more clients within s.1)
+
+by_test : (b : Bool) (x y z : Result (List Client) ℕ) → cond b x y ≡ z → ((b ≡ true) × (x ≡ z)) ⊎ (y ≡ z)
+by_test true x y z e = inl (refl, e)
+by_test false x y z e = inr e
+
+lines_few : (input : List ℕ) → length (lines input) ≤ length input + 1
+lines_few input = omega (arith, length-slice_split is_line_feed input, count_by-le-length is_line_feed input)
+
+lines_some : (input : List ℕ) → 0 < length (lines input)
+lines_some input = omega (arith, length-slice_split is_line_feed input)
+
+-- the clients of a script insert one point at most, and have fewer commands than the limit
+pub script_servable : (room : ℕ) (input : List ℕ) (script : List Client) → script_of room input ≡ Ok script → AllByRecursion (IsServable (lines_limit - 1)) script
+script_servable room input script e =
+    elim (by_test (nat_le (length input) limit) (text_said room Whole input) (text_said room Long (take limit input)) (Ok script) e) [
+      | inl whole ↦ all_within (0 + length (lines input)) (lines_limit - 1) script (omega (arith, lines_few input, leb-true (length input) limit whole.0)) (lines_servable 0 room [] 1 (lines input) script whole.1 tt)
+      | inr long ↦ absurd (long_text_faulty room (lines (take limit input)) script (lines_some (take limit input)) long)
+    ]

@@ -1,0 +1,5 @@
+pub mod Words
+pub mod Once
+pub mod Points
+pub mod Status
+pub mod Owed
