@@ -5,7 +5,7 @@ use Rattle.std.specs.List.{AllByRecursion}
 use Rattle.std.proofs.lemmas.List.{take-map, take_all, length-map, length-take}
 use Rattle.std.proofs.lemmas.Bool.{both_ways, ne_eqb, or_right}
 use Rattle.ann_pool.specs.declared.item.Item.{Item}
-use Rattle.ann_pool.specs.Pool.{item_before, offered, pooled, fresh, unvisited, marked, IsSameWhereThere}
+use Rattle.ann_pool.specs.Pool.{offered, pooled, fresh, unvisited, marked, IsSameWhereThere}
 use Rattle.ann_types.specs.Order.{before, placed, has}
 use Rattle.ann_types.proofs.Ordered.{cut_placed, IsAfter, IsRising, before-irreflexive, placed_there, has_append}
 use Rattle.ann_greedy.specs.Shows.{item, seen, AreFar}
@@ -130,31 +130,6 @@ none_map f None e = refl
 none_map f (Some p) e = absurd (none_some (f p) e)
 
 -- ---- Items that have their row's distance, and are rows
-
--- a fact of each item, after an offer and after a mark
-pub all_offered : (P : Item → Type 0) (x : Item) (s : List Item) → P x → AllByRecursion P s → AllByRecursion P (offered x s)
-all_offered P x [] h a = (h, tt)
-all_offered P x (y ∷ s) h a =
-    elim (item_before x y) as (λ t. AllByRecursion P (cond t (x ∷ y ∷ s) (cond (eqb x.number y.number) (y ∷ s) (y ∷ offered x s)))) [
-      | true ↦ (h, a)
-      | false ↦ elim (eqb x.number y.number) as (λ t. AllByRecursion P (cond t (y ∷ s) (y ∷ offered x s))) [
-        | true ↦ a
-        | false ↦ (a.0, all_offered P x s h a.1)
-      ]
-    ]
-
-pub all_take : (P : Item → Type 0) (n : ℕ) (s : List Item) → AllByRecursion P s → AllByRecursion P (take n s)
-all_take P zero s a = tt
-all_take P (suc n) [] a = tt
-all_take P (suc n) (y ∷ s) a = (a.0, all_take P n s a.1)
-
-pub all_marked : (P : Item → Type 0) → ((y : Item) → P y → P (record y { visited = true })) → (s : List Item) → AllByRecursion P s → AllByRecursion P (marked s)
-all_marked P keeps [] a = tt
-all_marked P keeps (y ∷ s) a =
-    elim (y.visited) as (λ t. AllByRecursion P (cond t (y ∷ marked s) ((record y { visited = true }) ∷ s))) [
-      | true ↦ (a.0, all_marked P keeps s a.1)
-      | false ↦ (keeps y a.0, a.1)
-    ]
 
 -- a row that is there is there at its distance
 pub far_there : (far : ℕ → ℕ) (x : ℕ) (s : List Item) → AreFar far s → IsSameWhereThere (fresh (far x) x) s

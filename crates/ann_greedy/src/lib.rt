@@ -10,3 +10,6 @@ mod greedy;
 
 pub use graph::Graph;
 pub use greedy::{walk, walk_visited};
+
+#[cfg(test)]
+mod tests;

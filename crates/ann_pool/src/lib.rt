@@ -10,3 +10,6 @@ mod pool;
 
 pub use item::Item;
 pub use pool::Pool;
+
+#[cfg(test)]
+mod tests;

@@ -17,6 +17,9 @@ pub use run::run_alone;
 use std::process::ExitCode;
 use std::{env, io};
 
+/// The status of a command that had no memory for its words.
+const NO_MEMORY: u8 = 9;
+
 /// The command's words, without the program's name. One that isn't UTF-8 makes the command line faulty, so it stands
 /// for no words at all.
 fn command_words(rt: &HostRuntime) -> Result<Vec<String>, io::Error> {
@@ -32,6 +35,7 @@ fn command_words(rt: &HostRuntime) -> Result<Vec<String>, io::Error> {
 fn main(rt: HostRuntime) -> ExitCode {
     let words = match command_words(&rt) {
         Ok(words) => words,
+        Err(error) if error.kind() == io::ErrorKind::OutOfMemory => return ExitCode::from(NO_MEMORY),
         Err(_) => Vec::new(rt.alloc()),
     };
     let mut input = StdSource::new(rt.stdin());

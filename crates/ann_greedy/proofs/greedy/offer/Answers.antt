@@ -3,7 +3,8 @@ use Rattle.ann_types.specs.Distance.{distance}
 use Rattle.ann_pool.specs.Pool.{IsSameWhereThere, fresh, pooled}
 use Rattle.ann_greedy.specs.Rows.{far_row}
 use Rattle.ann_greedy.specs.Shows.{AreFar, AreRows}
-use Rattle.ann_greedy.proofs.Pooled.{far_there, all_take, all_offered}
+use Rattle.ann_pool.proofs.Each.{all_take, all_offered}
+use Rattle.ann_greedy.proofs.Pooled.{far_there}
 use Rattle.ann_greedy.proofs.Pooling.{shows_known, shows_offered}
 use Rattle.ann_greedy.proofs.greedy.offer.Goals as goal
 

@@ -1,7 +1,8 @@
 use Rattle.std.proofs.Common.{◌≡◌, ◌<◌, ℕ, sym, subst}
 use Rattle.ann_greedy.specs.Rows.{far_row, ground_at}
 use Rattle.ann_greedy.specs.Shows.{AreFar, AreRows}
-use Rattle.ann_greedy.proofs.Pooled.{all_marked, found_item}
+use Rattle.ann_pool.proofs.Each.{all_marked}
+use Rattle.ann_greedy.proofs.Pooled.{found_item}
 use Rattle.ann_greedy.proofs.Pooling.{goes_on_along, is_over}
 use Rattle.ann_greedy.proofs.greedy.visit_next.Goals as goal
 

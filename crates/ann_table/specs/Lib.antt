@@ -1,0 +1,4 @@
+pub mod Lists
+pub mod Near
+pub mod Node
+pub mod Table
