@@ -24,16 +24,16 @@ nodes_none params = record {
 
 -- ---- one row's neighbours changed
 
-length_linked : (nodes : List Node) (row : ℕ) (links : List ℕ) (newer : ℕ) → length (linked nodes row links newer) ≡ length nodes
+pub length_linked : (nodes : List Node) (row : ℕ) (links : List ℕ) (newer : ℕ) → length (linked nodes row links newer) ≡ length nodes
 length_linked nodes row links newer = length-set nodes row (record (node_at nodes row) { links = links; newer = newer })
 
-at_linked_same : (nodes : List Node) (row : ℕ) (links : List ℕ) (newer : ℕ) → row < length nodes → node_at (linked nodes row links newer) row ≡ record (node_at nodes row) { links = links; newer = newer }
+pub at_linked_same : (nodes : List Node) (row : ℕ) (links : List ℕ) (newer : ℕ) → row < length nodes → node_at (linked nodes row links newer) row ≡ record (node_at nodes row) { links = links; newer = newer }
 at_linked_same nodes row links newer l = get_or-set_same nodes row (record (node_at nodes row) { links = links; newer = newer }) nothing l
 
-at_linked_other : (nodes : List Node) (row other : ℕ) (links : List ℕ) (newer : ℕ) → other ≢ row → node_at (linked nodes row links newer) other ≡ node_at nodes other
+pub at_linked_other : (nodes : List Node) (row other : ℕ) (links : List ℕ) (newer : ℕ) → other ≢ row → node_at (linked nodes row links newer) other ≡ node_at nodes other
 at_linked_other nodes row other links newer h = get_or-set_other nodes row other (record (node_at nodes row) { links = links; newer = newer }) nothing h
 
-vector_linked : (nodes : List Node) (row other : ℕ) (links : List ℕ) (newer : ℕ) → row < length nodes → (node_at (linked nodes row links newer) other).vector ≡ (node_at nodes other).vector
+pub vector_linked : (nodes : List Node) (row other : ℕ) (links : List ℕ) (newer : ℕ) → row < length nodes → (node_at (linked nodes row links newer) other).vector ≡ (node_at nodes other).vector
 vector_linked nodes row other links newer l = elim (cases_eq other row) [
   | inl e ↦ ap (λ n. (node_at (linked nodes row links newer) n).vector) e ∙ ap (λ (x : Node). x.vector) (at_linked_same nodes row links newer l) ∙ ap (λ n. (node_at nodes n).vector) (sym e)
   | inr h ↦ ap (λ (x : Node). x.vector) (at_linked_other nodes row other links newer h)
@@ -44,7 +44,7 @@ same_linked nodes row links newer n l x y a b =
     ap (λ t. distance t (node_at (linked nodes row links newer) y).vector) (vector_linked nodes row x links newer l)
     ∙ ap (distance (node_at nodes x).vector) (vector_linked nodes row y links newer l)
 
-pids_linked : (nodes : List Node) (row : ℕ) (links : List ℕ) (newer : ℕ) → row_pids (linked nodes row links newer) ≡ row_pids nodes
+pub pids_linked : (nodes : List Node) (row : ℕ) (links : List ℕ) (newer : ℕ) → row_pids (linked nodes row links newer) ≡ row_pids nodes
 pids_linked nodes row links newer = map-set_same (λ (x : Node). x.pid) nodes row (record (node_at nodes row) { links = links; newer = newer }) nothing refl
 
 -- a node stays sound where rows come and distances stay

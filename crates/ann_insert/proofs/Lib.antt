@@ -1,0 +1,4 @@
+pub mod Settling
+pub mod Keeping
+pub mod Changed
+pub mod Putting

@@ -1,0 +1,66 @@
+ghost use Rattle.std.specs.Prelude.{◌≡◌, ◌≢◌, ◌≤◌, ◌<◌, ◌+◌, ◌++◌, ◌∷◌, ℕ, [], length, All};
+ghost use Rattle.std.specs.List.Sorted.{IsStrictlyIncreasing};
+ghost use Rattle.ann_types.specs.Kept.{rule_of, within};
+ghost use Rattle.ann_table.specs.Node.{node_at, linked, apart_rows};
+ghost use Rattle.ann_insert.specs.Back.{IsBehind, AreApart, AreSameButLinks, AreLinkedBack, most};
+
+use crate::gather::{add_within, gather};
+use ann_greedy::Graph;
+use ann_prune::{Candidates, prune_newer};
+use ann_table::Table;
+use arrayvec::ArrayVec;
+
+/// Links a row back to a new one: the new one is a neighbour of it, or its neighbours are what a prune keeps where they
+/// would be more than R.
+fn link_back(
+    table: &mut Table,
+    candidates: &mut Candidates,
+    kept: &mut ArrayVec<u32, 128>,
+    row: u32,
+    new: u32,
+)
+    requires row { row < length table.old.nodes }
+    requires inside { new < length table.old.nodes }
+    requires other { new ≢ row }
+    requires behind { IsBehind new (node_at table.old.nodes row) }
+    requires empty { candidates.old.rows ≡ [] }
+    requires room { most ≤ candidates.old.room }
+    ensures params { table.new.params ≡ table.old.params }
+    ensures nodes { table.new.nodes ≡ linked table.old.nodes row (within (rule_of table.old.params) (apart_rows table.old.nodes) row ((node_at table.old.nodes row).links ++ new ∷ [])) (node_at table.new.nodes row).newer }
+    ensures emptied { candidates.new.rows ≡ [] }
+    ensures kept { most ≤ candidates.new.room }
+{
+    table.known();
+    if table.neighbours(row).len() < usize::from(table.params().r) {
+        table.link(row, new);
+        return;
+    }
+    gather(candidates, table.neighbours(row));
+    add_within(candidates, new);
+    prune_newer(table, row, candidates, table.newer(row), table.params(), kept);
+    table.set_kept(row, kept);
+}
+
+/// Links each of these rows back to a new one.
+pub(crate) fn link_all_back(
+    table: &mut Table,
+    candidates: &mut Candidates,
+    kept: &mut ArrayVec<u32, 128>,
+    rows: &[u32],
+    new: u32,
+)
+    requires inside { new < length table.old.nodes }
+    requires rows { All (λ row. row < new) rows.now }
+    requires distinct { IsStrictlyIncreasing rows.now }
+    requires behind { All (λ row. IsBehind new (node_at table.old.nodes row)) rows.now }
+    requires empty { candidates.old.rows ≡ [] }
+    requires room { most ≤ candidates.old.room }
+    ensures params { table.new.params ≡ table.old.params }
+    ensures same { AreSameButLinks table.old.nodes table.new.nodes }
+    ensures linked { (apart : ℕ → ℕ → ℕ) → AreApart apart table.old.nodes → AreLinkedBack (rule_of table.old.params) apart new rows.now table.old.nodes table.new.nodes }
+{
+    table.known();
+    for row in rows {
+        link_back(table, candidates, kept, *row, new);
+    }
+}

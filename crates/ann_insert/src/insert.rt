@@ -1,0 +1,97 @@
+ghost use Rattle.std.specs.Prelude.{◌≡◌, ◌≤◌, ◌<◌, ◌++◌, ◌∷◌, [], length, All, OnOk, OnErr};
+ghost use Rattle.ann_types.specs.Put.{put as put_of};
+ghost use Rattle.ann_types.specs.Kept.{rule_of, kept as kept_by};
+ghost use Rattle.ann_greedy.specs.Rows.{visited_rows};
+ghost use Rattle.ann_table.specs.Node.{node_at, linked, rows_of, first_row, apart_rows, graph_of};
+ghost use Rattle.ann_insert.specs.Back.{most};
+
+use crate::back::link_all_back;
+use crate::gather::gather;
+use crate::scratch::PutScratch;
+use ann_greedy::{Graph, walk_visited};
+use ann_prune::{Candidates, prune};
+use ann_table::Table;
+use ann_types::{Pid, Tag};
+use arrayvec::ArrayVec;
+use std::alloc::AllocError;
+
+/// The most candidates of a prune that links back: R neighbours and one more.
+const BACK_ROOM: usize = 129;
+
+/// Walks to a vector, and makes room for a row more and for the candidates of every prune that links it.
+///
+/// The only error is want of memory.
+fn prepare(table: &mut Table, scratch: &mut PutScratch, vector: &[u8]) -> Result<(), AllocError>
+    requires { length vector.now ≡ table.old.params.d }
+    ensures params { table.new.params ≡ table.old.params }
+    ensures nodes { table.new.nodes ≡ table.old.nodes }
+    ensures spare { OnOk result (1 ≤ table.new.spare) }
+    ensures visited { OnOk result (scratch.new.visited.items ≡ visited_rows (rows_of table.old.params table.old.nodes) vector.now table.old.params.l_build (first_row table.old.nodes)) }
+    ensures rows { All (λ row. row < length table.old.nodes) scratch.new.visited.items }
+    ensures empty { scratch.new.candidates.rows ≡ [] }
+    ensures room { OnOk result (length scratch.new.visited.items ≤ scratch.new.candidates.room) }
+    ensures back { OnOk result (most ≤ scratch.new.candidates.room) }
+{
+    table.known();
+    scratch.candidates.clear();
+    scratch.pool.clear(table.params().l_build);
+    walk_visited(table, vector, &mut scratch.pool, &mut scratch.visited)?;
+    let most = scratch.visited.len().max(BACK_ROOM);
+    scratch.candidates.reserve(most as u32)?;
+    table.reserve(1)
+}
+
+/// Links a row to what it keeps of others.
+fn link(
+    table: &mut Table,
+    candidates: &mut Candidates,
+    kept: &mut ArrayVec<u32, 128>,
+    row: u32,
+    others: &[u32],
+)
+    requires row { row < length table.old.nodes }
+    requires others { All (λ other. other < row) others.now }
+    requires empty { candidates.old.rows ≡ [] }
+    requires room { length others.now ≤ candidates.old.room }
+    ensures params { table.new.params ≡ table.old.params }
+    ensures kept { kept.new.items ≡ kept_by (rule_of table.old.params) (apart_rows table.old.nodes) row others.now }
+    ensures nodes { table.new.nodes ≡ linked table.old.nodes row kept.new.items (length table.old.nodes) }
+    ensures emptied { candidates.new.rows ≡ [] }
+    ensures kept_room { candidates.old.room ≤ candidates.new.room }
+{
+    gather(candidates, others);
+    prune(table, row, candidates, table.params(), kept);
+    table.set_kept(row, kept);
+}
+
+/// Adds a point to the graph (FreshDiskANN, section 4, insert).
+///
+/// The new point is linked to what a robust prune keeps of the points that a walk to it visits, and each of these is
+/// linked back. Its Pid is above all others and below `2^32 - 1`, and its vector has the index's d components. Takes all
+/// its memory before the first change: the only error is want of memory, and the table is then as before.
+pub fn put(
+    table: &mut Table,
+    scratch: &mut PutScratch,
+    pid: Pid,
+    tag: Tag,
+    vector: &[u8],
+) -> Result<(), AllocError>
+    requires above { All (λ node. node.pid < pid) table.old.nodes }
+    requires small { pid < 4294967295 }
+    requires vector { length vector.now ≡ table.old.params.d }
+    ensures params { table.new.params ≡ table.old.params }
+
+    // The graph is the one that the definition gives.
+    ensures put { OnOk result (graph_of table.new.nodes ≡ put_of table.old.params (graph_of table.old.nodes) pid tag vector.now) }
+
+    // A refusal leaves the rows as they were.
+    ensures refused { OnErr result (table.new.nodes ≡ table.old.nodes) }
+{
+    table.known();
+    prepare(table, scratch, vector)?;
+    let row = Graph::count(table);
+    table.add(pid, tag, vector, &[]);
+    link(table, &mut scratch.candidates, &mut scratch.kept, row, &scratch.visited);
+    link_all_back(table, &mut scratch.candidates, &mut scratch.kept_back, &scratch.kept, row);
+    Ok(())
+}
