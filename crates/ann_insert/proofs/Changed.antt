@@ -1,9 +1,8 @@
 -- Rows whose neighbours change: their Pids and distances stay, and one of them is linked back.
-use Rattle.std.proofs.Common.{◌≡◌, ◌≢◌, ℕ, zero, suc, ◌+◌, ◌<◌, ◌≤◌, true, false, cond, eqb, List, [], ◌∷◌, ◌++◌, ◌||◌, Bool, refl, sym, ap, ◌∙◌, subst, arith, length, take, map, get_or, inl, inr, eqb-true, eq-eqb}
-use Rattle.std.specs.List.{All, AllByRecursion}
-use Rattle.std.proofs.lemmas.Bool.{false≢true, or_cases, or_left, or_right, ne_eqb, cases_eq}
-use Rattle.std.proofs.lemmas.List.{take_more, map-append}
-use Rattle.std.proofs.lemmas.List.Elements.{recursion_from_All}
+use Rattle.std.proofs.Common.{◌≡◌, ◌≢◌, ℕ, zero, suc, ◌+◌, ◌<◌, true, false, eqb, List, [], ◌∷◌, ◌++◌, ◌||◌, Bool, refl, sym, ap, ◌∙◌, arith, length, take, map, get_or, inl, inr, eqb-true, eq-eqb}
+use Rattle.std.specs.List.{AllByRecursion}
+use Rattle.std.proofs.lemmas.Bool.{false≢true, or_cases, ne_eqb, cases_eq}
+use Rattle.std.proofs.lemmas.List.{take_more}
 use Rattle.std.proofs.Math.ListN.{get_or-map}
 use Rattle.ann_types.specs.Distance.{distance}
 use Rattle.ann_types.specs.Order.{has, ascending}
@@ -13,7 +12,7 @@ use Rattle.ann_types.specs.Put.{linked_back}
 use Rattle.ann_types.proofs.Ordered.{has_append, in_order_same}
 use Rattle.ann_types.proofs.Sets.{Rises, ascending_rises, rises_push, all_append}
 use Rattle.ann_types.proofs.Renamed.{IsRise, Below, ascending_map, within_map}
-use Rattle.ann_types.proofs.Rowed.{pid_at, pids_rise_at}
+use Rattle.ann_types.proofs.Rowed.{pids_rise_at}
 use Rattle.ann_types.specs.declared.params.Params.{Params}
 use Rattle.ann_table.specs.Node.{Node, nothing, node_at, row_pid, row_pids, apart_rows, point_of, graph_of, linked}
 use Rattle.ann_table.specs.Table.{AreNodes}
@@ -150,17 +149,17 @@ one_linked rule apart new rows i d old now newer rise are same inside_new within
     record {
       linked = λ z l h. elim (cases_eq z row) [
         | inl is ↦
-          ap (λ r. point_of old (node_at (linked now row links newer) r)) is
-          ∙ ap (point_of old) (at_linked_same now row links newer (omega arith))
-          ∙ ap (λ (x : Node). point_of old (record x { links = links; newer = newer })) stayed
-          ∙ ap (λ t. record (point_of old (node_at old row)) { links = t }) by_pids
-          ∙ ap (λ r. linked_back rule apart (row_pid old new) (point_of old (node_at old r))) (sym is)
+            ap (λ r. point_of old (node_at (linked now row links newer) r)) is
+            ∙ ap (point_of old) (at_linked_same now row links newer (omega arith))
+            ∙ ap (λ (x : Node). point_of old (record x { links = links; newer = newer })) stayed
+            ∙ ap (λ t. record (point_of old (node_at old row)) { links = t }) by_pids
+            ∙ ap (λ r. linked_back rule apart (row_pid old new) (point_of old (node_at old r))) (sym is)
         | inr other ↦
-          ap (point_of old) (at_linked_other now row z links newer other)
-          ∙ back.linked z l (elim (or_cases (has (take i rows) z) (eqb z row || false) (sym (has_next rows i d z within_rows) ∙ h)) [
-            | inl there ↦ there
-            | inr last ↦ absurd (elim (or_cases (eqb z row) false last) [ inl e ↦ other (eqb-true z row e) | inr e ↦ false≢true e ])
-          ])
+            ap (point_of old) (at_linked_other now row z links newer other)
+            ∙ back.linked z l (elim (or_cases (has (take i rows) z) (eqb z row || false) (sym (has_next rows i d z within_rows) ∙ h)) [
+              | inl there ↦ there
+              | inr last ↦ absurd (elim (or_cases (eqb z row) false last) [ inl e ↦ other (eqb-true z row e) | inr e ↦ false≢true e ])
+            ])
       ];
       others = λ z l h.
           let none = or_none (has (take i rows) z) (eqb z row) (sym (has_next rows i d z within_rows) ∙ h) in

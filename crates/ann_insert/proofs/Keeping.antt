@@ -1,8 +1,8 @@
 -- What a row keeps of other rows may be its neighbours.
-use Rattle.std.proofs.Common.{◌≡◌, ◌≢◌, ℕ, ◌<◌, ◌≤◌, List, [], ◌∷◌, ◌++◌, arith, length}
+use Rattle.std.proofs.Common.{◌≢◌, ℕ, ◌<◌, ◌≤◌, List, [], arith, length}
 use Rattle.std.specs.Prelude.{Option, Some, None}
 use Rattle.std.specs.List.{All}
-use Rattle.std.proofs.lemmas.List.Elements.{All-from_recursion, All-push}
+use Rattle.std.proofs.lemmas.List.Elements.{All-from_recursion}
 use Rattle.ann_types.specs.Kept.{Rule, rule_of, kept}
 use Rattle.ann_types.proofs.Sets.{increasing_from_rises}
 use Rattle.ann_types.proofs.Keeps.{kept_inside, kept_few, kept_rises}

@@ -1,5 +1,5 @@
 -- A row added, linked to what it keeps, and each of these linked back: the graph is the one with the point put into it.
-use Rattle.std.proofs.Common.{◌≡◌, ◌≢◌, ℕ, zero, suc, ◌+◌, ◌<◌, ◌≤◌, true, false, cond, List, [], ◌∷◌, ◌++◌, refl, sym, ap, ◌∙◌, subst, arith, length, map, get_or, inl, inr, unwrap_or}
+use Rattle.std.proofs.Common.{◌≡◌, ℕ, suc, ◌+◌, ◌<◌, true, false, cond, List, [], ◌∷◌, ◌++◌, refl, sym, ap, ◌∙◌, subst, arith, length, map, get_or, inl, inr, unwrap_or}
 use Rattle.std.specs.Prelude.{Option, Some, None}
 use Rattle.std.specs.List.{All, AllByRecursion}
 use Rattle.std.proofs.lemmas.Bool.{cases_lt}
@@ -8,7 +8,7 @@ use Rattle.std.proofs.lemmas.List.Elements.{recursion_from_All, All-from_recursi
 use Rattle.std.proofs.Math.ListN.{get_or-map}
 use Rattle.std.proofs.Math.Seq.{get_or-append_seam}
 use Rattle.ann_types.specs.Order.{has}
-use Rattle.ann_types.specs.Graph.{Point, Graph, apart_in, visited}
+use Rattle.ann_types.specs.Graph.{Point, apart_in, visited}
 use Rattle.ann_types.specs.Kept.{Rule, rule_of, kept}
 use Rattle.ann_types.specs.Put.{alone, linked_back, put}
 use Rattle.ann_types.proofs.Sets.{none_from_below}
@@ -166,10 +166,10 @@ module _ (params : Params) (nodes : List Node) (pid tag : ℕ) (vector : List �
           point_now (node_at now row)
           ∙ elim (has out row) as (λ t. has out row ≡ t → point_of first (node_at now row) ≡ cond t (linked_back rule apart pid (point_of nodes (node_at nodes row))) (point_of nodes (node_at nodes row))) [
             | true ↦ λ e.
-              linking.linked row inside e
-              ∙ ap (λ p. linked_back rule apart p (point_of first (node_at first row))) first_new_pid
-              ∙ ap (λ (y : Node). linked_back rule apart pid (point_of first y)) (old_first row l)
-              ∙ ap (linked_back rule apart pid) (old_point row l)
+                linking.linked row inside e
+                ∙ ap (λ p. linked_back rule apart p (point_of first (node_at first row))) first_new_pid
+                ∙ ap (λ (y : Node). linked_back rule apart pid (point_of first y)) (old_first row l)
+                ∙ ap (linked_back rule apart pid) (old_point row l)
             | false ↦ λ e. ap (point_of first) (linking.others row inside e ∙ old_first row l) ∙ old_point row l
           ] refl
           ∙ ap (λ t. cond t (linked_back rule apart pid (point_of nodes (node_at nodes row))) (point_of nodes (node_at nodes row))) (sym (has_out row l))
@@ -214,8 +214,8 @@ module _ (params : Params) (nodes : List Node) (pid tag : ℕ) (vector : List �
           ∙ elim (cases_lt row new) [
             | inl old ↦ old_is row old ∙ sym (put_old row old) ∙ get_or_default put_points row (back (point_of nodes nothing)) d inside
             | inr last ↦ (
-              let is : row ≡ new = omega arith in
-              ap (λ r. point_of now (node_at now r)) is ∙ new_is ∙ sym (put_new d) ∙ ap (λ r. get_or put_points r d) (sym is))
+                let is : row ≡ new = omega arith in
+                ap (λ r. point_of now (node_at now r)) is ∙ new_is ∙ sym (put_new d) ∙ ap (λ r. get_or put_points r d) (sym is))
           ])
 
       entry_now : (graph_of now).entry ≡ Some (unwrap_or (graph_of nodes).entry pid)
@@ -257,7 +257,7 @@ module _ (params : Params) (nodes : List Node) (pid tag : ℕ) (vector : List �
 
       pub behind_all : All (λ other. IsBehind row (node_at linked_rows other)) own
       behind_all = All-from_recursion (λ other. IsBehind row (node_at linked_rows other)) own
-          (all_below row own (λ other. IsBehind row (node_at linked_rows other)) out_inside (λ other l. 
+          (all_below row own (λ other. IsBehind row (node_at linked_rows other)) out_inside (λ other l.
           let inside : other < new = (let is = row_is in omega arith) in
           subst (λ (y : Node). IsBehind row y)
           (sym (ap (λ ns. node_at ns other) linked_first ∙ at_linked_other added new other out newer (λ e. omega arith) ∙ get_or_append_left nodes (node ∷ []) nothing other inside))

@@ -1,11 +1,11 @@
 -- What a prune keeps is settled: none of the kept candidates leaves out a later one.
-use Rattle.std.proofs.Common.{◌≡◌, ℕ, ◌*◌, Bool, true, false, cond, leb, not, List, [], ◌∷◌, ◌++◌, ◌||◌, ◌⊎◌, refl, sym, ap, ◌∙◌, subst, inl, inr, eqb-true, eq-eqb}
+use Rattle.std.proofs.Common.{◌≡◌, ℕ, ◌*◌, Bool, true, false, cond, leb, not, List, [], ◌∷◌, ◌++◌, ◌||◌, ◌⊎◌, refl, sym, ap, ◌∙◌, inl, inr, eqb-true, eq-eqb}
 use Rattle.std.specs.List.{list_any}
 use Rattle.std.proofs.lemmas.Bool.{false≢true, and_parts, or_cases}
-use Rattle.ann_types.specs.Order.{has, before, in_order, ascending}
+use Rattle.ann_types.specs.Order.{has, before, in_order}
 use Rattle.ann_types.specs.Kept.{Rule, covered, takes, keep, kept}
-use Rattle.ann_types.proofs.Ordered.{IsAfter, IsRising, before-irreflexive, before-asymmetric, after_has, has_append, has_cases, has_later, has_here, rising_in_order}
-use Rattle.ann_types.proofs.Sets.{has_ascending, not_among}
+use Rattle.ann_types.proofs.Ordered.{IsRising, before-irreflexive, before-asymmetric, after_has, has_append, has_cases, has_later, has_here, rising_in_order}
+use Rattle.ann_types.proofs.Sets.{has_ascending}
 use Rattle.ann_prune.specs.Newer.{leaves_out, AreSettled}
 
 none_any : (f : ℕ → Bool) (xs : List ℕ) (x : ℕ) → list_any f xs ≡ false → has xs x ≡ true → f x ≡ false
@@ -56,11 +56,11 @@ module _ (rule : Rule) (apart : ℕ → ℕ → ℕ) (p : ℕ) where
   keep_free ks (c ∷ cs) (after, rising) lead free =
       elim (takes rule apart p ks c) as (λ t. takes rule apart p ks c ≡ t → AreFree (keep rule apart p (cond t (ks ++ c ∷ []) ks) cs)) [
         | true ↦ λ e. keep_free (ks ++ c ∷ []) cs rising
-          (λ k x h m. elim (has_push ks c k h) [
-            | inl there ↦ lead k x there (has_later c x cs m)
-            | inr is ↦ ap (λ z. before (apart p) z x) is ∙ after_has (apart p) c x cs after m
-          ])
-          (free_push ks c free (λ k h. lead k c h (has_here c c cs (eq-eqb c c refl))) (not_true (covered rule apart p ks c) (and_parts _ _ e).1))
+            (λ k x h m. elim (has_push ks c k h) [
+              | inl there ↦ lead k x there (has_later c x cs m)
+              | inr is ↦ ap (λ z. before (apart p) z x) is ∙ after_has (apart p) c x cs after m
+            ])
+            (free_push ks c free (λ k h. lead k c h (has_here c c cs (eq-eqb c c refl))) (not_true (covered rule apart p ks c) (and_parts _ _ e).1))
         | false ↦ λ e. keep_free ks cs rising (λ k x h m. lead k x h (has_later c x cs m)) free
       ] refl
 

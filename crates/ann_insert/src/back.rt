@@ -37,7 +37,14 @@ fn link_back(
     }
     gather(candidates, table.neighbours(row));
     add_within(candidates, new);
-    prune_newer(table, row, candidates, table.newer(row), table.params(), kept);
+    prune_newer(
+        table,
+        row,
+        candidates,
+        table.newer(row),
+        table.params(),
+        kept,
+    );
     table.set_kept(row, kept);
 }
 

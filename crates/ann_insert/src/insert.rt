@@ -2,7 +2,7 @@ ghost use Rattle.std.specs.Prelude.{◌≡◌, ◌≤◌, ◌<◌, ◌++◌, ◌
 ghost use Rattle.ann_types.specs.Put.{put as put_of};
 ghost use Rattle.ann_types.specs.Kept.{rule_of, kept as kept_by};
 ghost use Rattle.ann_greedy.specs.Rows.{visited_rows};
-ghost use Rattle.ann_table.specs.Node.{node_at, linked, rows_of, first_row, apart_rows, graph_of};
+ghost use Rattle.ann_table.specs.Node.{node_at, linked, rows_of, first_row, apart_rows, row_pids, graph_of};
 ghost use Rattle.ann_insert.specs.Back.{most};
 
 use crate::back::link_all_back;
@@ -84,6 +84,9 @@ pub fn put(
     // The graph is the one that the definition gives.
     ensures put { OnOk result (graph_of table.new.nodes ≡ put_of table.old.params (graph_of table.old.nodes) pid tag vector.now) }
 
+    // So the point's row comes behind all others.
+    ensures pids { OnOk result (row_pids table.new.nodes ≡ row_pids table.old.nodes ++ pid ∷ []) }
+
     // A refusal leaves the rows as they were.
     ensures refused { OnErr result (table.new.nodes ≡ table.old.nodes) }
 {
@@ -91,7 +94,19 @@ pub fn put(
     prepare(table, scratch, vector)?;
     let row = Graph::count(table);
     table.add(pid, tag, vector, &[]);
-    link(table, &mut scratch.candidates, &mut scratch.kept, row, &scratch.visited);
-    link_all_back(table, &mut scratch.candidates, &mut scratch.kept_back, &scratch.kept, row);
+    link(
+        table,
+        &mut scratch.candidates,
+        &mut scratch.kept,
+        row,
+        &scratch.visited,
+    );
+    link_all_back(
+        table,
+        &mut scratch.candidates,
+        &mut scratch.kept_back,
+        &scratch.kept,
+        row,
+    );
     Ok(())
 }

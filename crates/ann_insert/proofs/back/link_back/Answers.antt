@@ -1,5 +1,4 @@
-use Rattle.std.proofs.Common.{◌≡◌, ◌≢◌, ◌<◌, ◌++◌, ◌∷◌, [], ℕ, List, sym, ap, ◌∙◌, subst, arith, length}
-use Rattle.std.specs.List.{All}
+use Rattle.std.proofs.Common.{◌≡◌, ◌≢◌, ◌<◌, ◌++◌, ◌∷◌, [], ℕ, List, sym, ap, ◌∙◌, subst, length}
 use Rattle.std.proofs.lemmas.List.Elements.{All-push}
 use Rattle.ann_types.specs.Kept.{rule_of, kept}
 use Rattle.ann_types.specs.declared.params.Params.{Params}

@@ -1,5 +1,4 @@
-use Rattle.std.proofs.Common.{◌≡◌, ◌≤◌, ℕ, List, sym, ap, ◌∙◌, arith, length}
-use Rattle.ann_greedy.specs.Rows.{visited_rows}
+use Rattle.std.proofs.Common.{ap, arith, length}
 use Rattle.ann_table.specs.Node.{rows_of, first_row}
 use Rattle.ann_table.proofs.Sound.{few_nodes}
 use Rattle.ann_insert.proofs.Keeping.{visited_few}

@@ -1,5 +1,5 @@
-use Rattle.std.proofs.Common.{◌≡◌, ◌<◌, ◌++◌, ◌∷◌, ◌+◌, [], ℕ, List, refl, sym, ap, ◌∙◌, subst, arith, length}
-use Rattle.std.specs.List.{All, AllByRecursion}
+use Rattle.std.proofs.Common.{◌≡◌, ◌<◌, ◌++◌, ◌∷◌, [], ℕ, List, refl, sym, ap, ◌∙◌, subst, arith, length}
+use Rattle.std.specs.List.{AllByRecursion}
 use Rattle.std.proofs.lemmas.List.Elements.{All-from_recursion, recursion_from_All}
 use Rattle.ann_types.specs.Kept.{rule_of, kept}
 use Rattle.ann_types.specs.declared.params.Params.{Params}
@@ -7,9 +7,12 @@ use Rattle.ann_types.proofs.Sets.{Rises, increasing_from_rises}
 use Rattle.ann_types.proofs.Keeps.{kept_rises}
 use Rattle.ann_types.proofs.Renamed.{Below}
 use Rattle.ann_greedy.specs.Rows.{visited_rows}
-use Rattle.ann_table.specs.Node.{Node, rows_of, first_row, apart_rows, linked}
+use Rattle.ann_types.specs.Graph.{Graph, pids_of}
+use Rattle.ann_types.proofs.Graphs.{pids_put}
+use Rattle.ann_table.specs.Node.{Node, rows_of, first_row, apart_rows, linked, graph_of}
 use Rattle.ann_table.specs.Table.{AreNodes}
 use Rattle.ann_table.proofs.Sound.{nodes_added}
+use Rattle.ann_table.proofs.Graphs.{pids_are}
 use Rattle.ann_insert.specs.Back.{AreLinkedBack}
 use Rattle.ann_insert.proofs.Putting.{put_from, out_inside, behind_all}
 use Rattle.ann_insert.proofs.insert.put.Goals.{After-deref-2}
@@ -74,3 +77,10 @@ returns-clause-put c =
     put_from c.args.table.now.params c.args.table.now.nodes c.args.pid c.args.tag c.args.vector.now c.known.ensures (sound_added d) (near_below d) c.count-row.result (row_is d) c.deref.result.now (seen_is d) c.add.new.self.nodes (rows_are d) c.deref-2.result.now (own_is d) (length c.add.new.self.nodes) c.link.new.table.nodes (linked_are d)
     c.link_all_back.new.table.nodes c.link_all_back.ensures.same
     (λ apart are. subst (λ (ps : Params). AreLinkedBack (rule_of ps) apart c.count-row.result c.deref-2.result.now c.link.new.table.nodes c.link_all_back.new.table.nodes) (c.link.ensures.params ∙ params_are d) (c.link_all_back.ensures.linked apart are))
+
+pub returns-clause-pids : goal.returns-clause-pids
+returns-clause-pids c =
+    sym (pids_are c.link_all_back.new.table.nodes)
+    ∙ ap (λ (g : Graph). pids_of g.points) (returns-clause-put c)
+    ∙ pids_put c.args.table.now.params (graph_of c.args.table.now.nodes) c.args.pid c.args.tag c.args.vector.now
+    ∙ ap (λ t. t ++ c.args.pid ∷ []) (pids_are c.args.table.now.nodes)
