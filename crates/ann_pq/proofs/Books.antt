@@ -1,5 +1,5 @@
 -- The centroids of a codebook, from its bytes and from the turned ones.
-use Rattle.std.proofs.Common.{◌≡◌, ℕ, ◌+◌, ◌-◌, ◌*◌, ◌/◌, ◌≤◌, ◌<◌, List, [], ◌∷◌, length, get_or, take, drop, map, refl, sym, ap, subst, ◌∙◌, arith}
+use Rattle.std.proofs.Common.{◌≡◌, None, ℕ, ◌+◌, ◌-◌, ◌*◌, ◌/◌, ◌≤◌, ◌<◌, List, [], ◌∷◌, length, get_or, take, drop, map, refl, sym, ap, subst, ◌∙◌, arith}
 use Rattle.std.specs.Prelude.{All}
 use Rattle.std.specs.List.{range_with_len}
 use Rattle.std.proofs.lemmas.List.{ext_get_or, get_or-take, get_or-drop, get_or-map, length-map, length-take-le, length-drop}
@@ -8,8 +8,8 @@ use Rattle.std.proofs.lemmas.List.FromFn.{get_or-map-range_with_len, length-map-
 use Rattle.ann_types.specs.Distance.{distance}
 use Rattle.ann_types.specs.Codes.{Book}
 use Rattle.ann_bytes.specs.LittleEndian.{field}
-use Rattle.ann_pq.specs.Codebook.{AreSizes, IsBook, Shown, IsCodebook, part_of}
-use Rattle.ann_pq.specs.Format.{centroid_in, centroids_in, book_in, codebook}
+use Rattle.ann_pq.specs.Codebook.{AreSizes, IsBook, Shown, part_of}
+use Rattle.ann_pq.specs.Format.{fault, IsCodebook, centroid_in, centroids_in, book_in, codebook}
 use Rattle.ann_pq.specs.Turned.{source, IsTurned, column}
 use Rattle.ann_pq.proofs.Places.{whole, part_ends, centroid_ends, source_at}
 
@@ -47,8 +47,8 @@ module _ (d m : ℕ) (bytes : List ℕ) (sizes : AreSizes d m) (long : length by
         widths = All-from_get_or (λ (part : List (List ℕ)). All (λ c. length c ≡ d / m) part) (book_in m (d / m) bytes) [] (λ p l. wide p (omega arith));
       }
 
-  pub is_codebook : IsCodebook (codebook d m bytes)
-  is_codebook = record { sizes = sizes; length = long; book = is_book }
+  pub is_codebook : fault d m bytes ≡ None → IsCodebook (codebook d m bytes)
+  is_codebook sound = record { sizes = sizes; sound = sound; size = long; centroids = refl; book = is_book }
 
   -- a centroid from the turned bytes of its part
   pub column_is : (turned : List ℕ) (p c w : ℕ) → w ≡ d / m → p < m → c < 256 → IsTurned (d / m) d bytes turned → column (take (256 * w) (drop (256 * (p * w)) turned)) c w ≡ get_or (get_or (book_in m (d / m) bytes) p []) c []

@@ -6,3 +6,4 @@ pub mod Leasts
 pub mod Codings
 pub mod Decodings
 pub mod Sums
+pub mod Worked

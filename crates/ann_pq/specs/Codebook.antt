@@ -1,5 +1,5 @@
--- What is seen of a codebook, and what is true of every one.
-use Rattle.std.specs.Prelude.{◌≡◌, ◌≤◌, ℕ, ◌+◌, ◌*◌, ◌/◌, ◌%◌, List, All, length, take, drop}
+-- What is seen of a codebook.
+use Rattle.std.specs.Prelude.{◌≡◌, ◌≤◌, ℕ, ◌*◌, ◌%◌, List, All, length, take, drop}
 use Rattle.ann_types.specs.Codes.{Book}
 
 -- components of a vector, and the parts into which they fall, each with one byte of a code
@@ -20,12 +20,6 @@ pub record Shown : Type 0 where
   pub m : ℕ
   pub bytes : List ℕ
   pub book : Book
-
--- what is true of every codebook
-pub record IsCodebook (shown : Shown) : Type 0 where
-  pub sizes : AreSizes shown.d shown.m
-  pub length : length shown.bytes ≡ 12 + 256 * shown.d
-  pub book : IsBook shown.m (shown.d / shown.m) shown.book
 
 -- a part of a vector
 abbrev pub part_of : ℕ → List ℕ → ℕ → List ℕ

@@ -1,10 +1,10 @@
 -- The bytes of a codebook: the magic (8 bytes), d (2), m (2), and then for part 0 to m - 1, for centroid 0 to 255, the
 -- d/m components of the centroid.
-use Rattle.std.specs.Prelude.{ℕ, ◌+◌, ◌*◌, ◌/◌, ◌==◌, ◌&&◌, not, nat_lt, nat_eq, List, [], ◌∷◌, map, length, Option, None, Some, Result, Ok, Err, if◌then◌else◌}
+use Rattle.std.specs.Prelude.{◌≡◌, ℕ, ◌+◌, ◌*◌, ◌/◌, ◌==◌, ◌&&◌, not, nat_lt, nat_eq, List, [], ◌∷◌, map, length, Option, None, Some, Result, Ok, Err, if◌then◌else◌}
 use Rattle.std.specs.List.{range_with_len, starts_with}
 use Rattle.ann_types.specs.Codes.{Book}
 use Rattle.ann_bytes.specs.LittleEndian.{number_of, field}
-use Rattle.ann_pq.specs.Codebook.{Shown}
+use Rattle.ann_pq.specs.Codebook.{AreSizes, IsBook, Shown}
 use Rattle.ann_pq.specs.declared.refused.CodebookRefused.{CodebookRefused}
 use Rattle.ann_pq.specs.declared.refused.CodebookRefused.TheVariants.{Length, Magic, Shape, Memory}
 
@@ -44,3 +44,11 @@ book_in parts width bytes = map (centroids_in width bytes) (range_with_len 0 par
 -- the codebook that these bytes are
 abbrev pub codebook : ℕ → ℕ → List ℕ → Shown
 codebook d m bytes = record { d = d; m = m; bytes = bytes; book = book_in m (d / m) bytes }
+
+-- what is true of every codebook: it is the one that its bytes are, which have no fault
+pub record IsCodebook (shown : Shown) : Type 0 where
+  pub sizes : AreSizes shown.d shown.m
+  pub sound : fault shown.d shown.m shown.bytes ≡ None
+  pub size : length shown.bytes ≡ 12 + 256 * shown.d
+  pub centroids : shown.book ≡ book_in shown.m (shown.d / shown.m) shown.bytes
+  pub book : IsBook shown.m (shown.d / shown.m) shown.book

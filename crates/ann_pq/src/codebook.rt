@@ -1,8 +1,8 @@
 ghost use Rattle.std.specs.Prelude.{◌≡◌, ◌≤◌, ◌<◌, ◌/◌, ℕ, [], length, map, get_or, IfOk};
 ghost use Rattle.ann_types.specs.Distance.{distance};
 ghost use Rattle.ann_types.specs.Codes.{code, decode};
-ghost use Rattle.ann_pq.specs.Codebook.{AreSizes, IsCodebook, part_of};
-ghost use Rattle.ann_pq.specs.Format.{fault, named, codebook};
+ghost use Rattle.ann_pq.specs.Codebook.{AreSizes, part_of};
+ghost use Rattle.ann_pq.specs.Format.{fault, named, codebook, IsCodebook};
 
 use crate::CodebookRefused;
 use crate::check::{HEAD, check};
@@ -25,16 +25,16 @@ pub struct Codebook {
 }
 
 impl Model for Codebook {
-    ghost use Rattle.std.specs.Prelude.{◌≡◌, ◌+◌, ◌*◌, ◌/◌, length};
+    ghost use Rattle.std.specs.Prelude.{◌≡◌, ◌+◌, ◌*◌, ◌/◌, length, None};
     ghost use Rattle.ann_pq.specs.Codebook.{Shown, AreSizes};
-    ghost use Rattle.ann_pq.specs.Format.{codebook};
+    ghost use Rattle.ann_pq.specs.Format.{codebook, fault};
     ghost use Rattle.ann_pq.specs.Turned.{IsTurned};
 
     ghost Value = { Shown };
 
     ghost view = { λ c. codebook c.d c.m c.bytes.items };
 
-    ghost invariant = { λ c. AreSizes c.d c.m × (length c.bytes.items ≡ 12 + 256 * c.d) × (length c.turned.items ≡ 256 * c.d) × IsTurned (c.d / c.m) c.d c.bytes.items c.turned.items };
+    ghost invariant = { λ c. AreSizes c.d c.m × (length c.bytes.items ≡ 12 + 256 * c.d) × (length c.turned.items ≡ 256 * c.d) × IsTurned (c.d / c.m) c.d c.bytes.items c.turned.items × (fault c.d c.m c.bytes.items ≡ None) };
 }
 
 impl Codebook {
