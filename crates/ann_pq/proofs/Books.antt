@@ -1,16 +1,13 @@
 -- The centroids of a codebook, from its bytes and from the turned ones.
-use Rattle.std.proofs.Common.{◌≡◌, None, ℕ, ◌+◌, ◌-◌, ◌*◌, ◌/◌, ◌≤◌, ◌<◌, List, [], ◌∷◌, length, get_or, take, drop, map, refl, sym, ap, subst, ◌∙◌, arith}
+use Rattle.std.proofs.Common.{◌≡◌, None, ℕ, ◌+◌, ◌-◌, ◌*◌, ◌/◌, ◌<◌, List, [], length, get_or, take, drop, map, refl, sym, ap, subst, ◌∙◌, arith}
 use Rattle.std.specs.Prelude.{All}
-use Rattle.std.specs.List.{range_with_len}
 use Rattle.std.proofs.lemmas.List.{ext_get_or, get_or-take, get_or-drop, get_or-map, length-map, length-take-le, length-drop}
 use Rattle.std.proofs.lemmas.List.Elements.{All-from_get_or}
 use Rattle.std.proofs.lemmas.List.FromFn.{get_or-map-range_with_len, length-map-range_with_len}
 use Rattle.ann_types.specs.Distance.{distance}
-use Rattle.ann_types.specs.Codes.{Book}
-use Rattle.ann_bytes.specs.LittleEndian.{field}
 use Rattle.ann_pq.specs.Codebook.{AreSizes, IsBook, Shown, part_of}
 use Rattle.ann_pq.specs.Format.{fault, IsCodebook, centroid_in, centroids_in, book_in, codebook}
-use Rattle.ann_pq.specs.Turned.{source, IsTurned, column}
+use Rattle.ann_pq.specs.Turned.{IsTurned, column}
 use Rattle.ann_pq.proofs.Places.{whole, part_ends, centroid_ends, source_at}
 
 module _ (d m : ℕ) (bytes : List ℕ) (sizes : AreSizes d m) (long : length bytes ≡ 12 + 256 * d) where

@@ -6,4 +6,5 @@ pub mod Leasts
 pub mod Codings
 pub mod Decodings
 pub mod Sums
+pub mod Shapes
 pub mod Worked

@@ -1,5 +1,5 @@
 -- Where centroids stand: their places are within the bytes, and each turned place is one of a centroid.
-use Rattle.std.proofs.Common.{◌≡◌, ℕ, zero, suc, ◌+◌, ◌*◌, ◌/◌, ◌%◌, ◌≤◌, ◌<◌, ap, ◌∙◌, sym, arith}
+use Rattle.std.proofs.Common.{◌≡◌, ℕ, zero, suc, ◌+◌, ◌*◌, ◌/◌, ◌%◌, ◌≤◌, ◌<◌, ap, ◌∙◌, arith}
 use Rattle.std.proofs.Math.Nat.{suc-mul, mul-le-mul_right, mul_assoc, mul_comm, div-add-mod, mul-mod_left}
 use Rattle.std.proofs.lemmas.Nat.{div-mul-add, mod-mul-add, div_below, mod_below}
 use Rattle.ann_pq.specs.Turned.{source}

@@ -1,5 +1,5 @@
 -- Worked examples, which the checker computes: faults of bytes, codes with a tie, and distances by tables.
-use Rattle.std.proofs.Common.{◌≡◌, ℕ, ◌+◌, ◌*◌, ◌/◌, List, [], ◌∷◌, ◌++◌, map, take, replicate, refl, None, Some}
+use Rattle.std.proofs.Common.{◌≡◌, ℕ, ◌*◌, ◌/◌, List, [], ◌∷◌, ◌++◌, map, take, replicate, refl, None, Some}
 use Rattle.std.specs.List.{range_with_len}
 use Rattle.ann_types.specs.Distance.{distance}
 use Rattle.ann_types.specs.Codes.{Book, code, decode}

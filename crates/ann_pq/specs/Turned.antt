@@ -1,6 +1,6 @@
 -- The centroids of a codebook turned round: for each component of a vector, the components of the 256 centroids of its
 -- part stand side by side.
-use Rattle.std.specs.Prelude.{◌≡◌, ◌<◌, ℕ, ◌+◌, ◌*◌, ◌/◌, ◌%◌, List, map, length, get_or, take}
+use Rattle.std.specs.Prelude.{◌≡◌, ◌<◌, ℕ, ◌+◌, ◌*◌, ◌/◌, ◌%◌, List, map, get_or, take}
 use Rattle.std.specs.List.{range_with_len}
 use Rattle.ann_types.specs.Distance.{distance}
 

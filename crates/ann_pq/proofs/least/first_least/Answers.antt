@@ -1,4 +1,4 @@
-use Rattle.std.proofs.Common.{◌≡◌, ◌<◌, ℕ, length, get_or, sym, ap, ◌∙◌, arith, eqb, false}
+use Rattle.std.proofs.Common.{get_or, sym, ap, ◌∙◌, arith}
 use Rattle.ann_pq.proofs.Leasts.{first_is, last_is}
 use Rattle.ann_pq.proofs.least.first_least.Goals as goal
 

@@ -1,8 +1,6 @@
-use Rattle.std.proofs.Common.{◌≡◌, ◌≤◌, ◌+◌, ◌*◌, length, ℕ, sym, subst, ◌∙◌, arith, take, map, ap, refl}
+use Rattle.std.proofs.Common.{◌≤◌, ◌+◌, ◌*◌, ℕ, sym, ◌∙◌, arith, map, ap, refl}
 use Rattle.std.proofs.lemmas.Simd.{length-zip2, Each1-weaker}
-use Rattle.std.proofs.lemmas.List.{take_all}
-use Rattle.ann_types.specs.Distance.{distance}
-use Rattle.ann_lanes.specs.Lanes.{Each1, square}
+use Rattle.ann_lanes.specs.Lanes.{square}
 use Rattle.ann_lanes.proofs.Differences.{sums_fit, sums_small}
 use Rattle.ann_pq.proofs.Columns.{block_more}
 use Rattle.ann_pq.proofs.turned.block_distances.Goals as goal

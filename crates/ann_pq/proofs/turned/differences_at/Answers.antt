@@ -1,8 +1,8 @@
-use Rattle.std.proofs.Common.{◌≤◌, ◌<◌, ◌+◌, ◌-◌, ◌%◌, cond, length, ℕ, List, sym, subst, ap, ◌∙◌, w8, map, replicate, arith}
-use Rattle.std.proofs.lemmas.List.{length-replicate, length-map}
+use Rattle.std.proofs.Common.{◌≤◌, ◌<◌, ◌+◌, ◌-◌, ◌%◌, cond, length, ℕ, sym, subst, ap, ◌∙◌, w8, replicate, arith}
+use Rattle.std.proofs.lemmas.List.{length-map}
 use Rattle.std.proofs.lemmas.Simd.{chunk-fits, below_from_Fits, length-chunk, zip2_splat_left, Each1-replicate}
 use Rattle.std.specs.Int.{abs_diff}
-use Rattle.ann_lanes.specs.Lanes.{Each1, chunk, zip2}
+use Rattle.ann_lanes.specs.Lanes.{Each1, chunk}
 use Rattle.ann_lanes.proofs.Differences.{differences, differences_small, masked}
 use lib.Dec.{ltb}
 use Rattle.ann_pq.proofs.turned.differences_at.Goals as goal

@@ -1,4 +1,4 @@
-use Rattle.std.proofs.Common.{◌≡◌, ◌≤◌, ◌<◌, ◌+◌, ◌*◌, ℕ, length, get_or, subst, sym, ap, ◌∙◌, arith}
+use Rattle.std.proofs.Common.{◌*◌, ◌∙◌, arith}
 use Rattle.std.proofs.lemmas.Simd.{length-put_chunk}
 use Rattle.ann_pq.proofs.Columns.{blocks_more, blocks_small}
 use Rattle.ann_pq.proofs.Pushes.{small_all}

@@ -1,4 +1,4 @@
-use Rattle.std.proofs.Common.{rules, ◌≡◌, ◌<◌, ◌≤◌, ◌*◌, ◌+◌, ℕ, get_or, length, sym, subst, ap, ◌∙◌, arith, List}
+use Rattle.std.proofs.Common.{rules, ◌≡◌, ◌<◌, ◌+◌, ℕ, get_or, sym, subst, ap, arith, List}
 use Rattle.ann_pq.specs.Turned.{source}
 use Rattle.ann_pq.proofs.Places.{source_within}
 use Rattle.ann_pq.proofs.Pushes.{pushed}

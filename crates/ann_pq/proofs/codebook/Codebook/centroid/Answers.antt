@@ -1,4 +1,4 @@
-use Rattle.std.proofs.Common.{◌≡◌, ◌≤◌, ◌<◌, ◌+◌, ◌*◌, ◌-◌, ◌/◌, List, ℕ, take, drop, length, get_or, [], subst, sym, ap, ◌∙◌, arith, refl}
+use Rattle.std.proofs.Common.{◌≡◌, ◌≤◌, ◌<◌, ◌+◌, ◌*◌, ◌-◌, ◌/◌, ℕ, take, drop, get_or, [], sym, ap, ◌∙◌, arith, refl}
 use Rattle.ann_pq.proofs.Places.{whole, centroid_ends}
 use Rattle.ann_pq.specs.Codebook.{Shown, AreSizes}
 use Rattle.ann_pq.proofs.Books.{centroid_is}

@@ -1,9 +1,8 @@
-use Rattle.std.proofs.Common.{◌≡◌, ◌<◌, ◌+◌, ◌/◌, ℕ, [], List, length, get_or, set, map, subst, sym, ap, ◌∙◌, arith, eqb}
+use Rattle.std.proofs.Common.{◌≡◌, ◌<◌, ◌+◌, ◌/◌, ℕ, [], List, get_or, set, subst, sym, ap, ◌∙◌, arith, eqb}
 use Rattle.std.specs.List.{position_or_len}
 use Rattle.std.proofs.lemmas.List.{length-set}
 use Rattle.std.proofs.lemmas.List.Edits.{fill_by_more}
 use Rattle.ann_types.specs.Codes.{least, nearest}
-use Rattle.ann_types.specs.Distance.{distance}
 use Rattle.ann_pq.specs.Codebook.{part_of}
 use Rattle.ann_pq.proofs.Leasts.{nearest_first}
 use Rattle.ann_pq.proofs.Codings.{code_is}

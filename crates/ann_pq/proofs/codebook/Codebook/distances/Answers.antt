@@ -1,4 +1,4 @@
-use Rattle.std.proofs.Common.{◌≡◌, ◌/◌, List, ℕ, subst, sym}
+use Rattle.std.proofs.Common.{◌/◌, List, ℕ, subst, sym}
 use Rattle.ann_pq.specs.Turned.{IsTurned}
 use Rattle.ann_pq.proofs.Books.{part_distances}
 use Rattle.ann_pq.proofs.codebook.Codebook.distances.Goals as goal

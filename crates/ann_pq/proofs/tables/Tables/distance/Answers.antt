@@ -1,4 +1,4 @@
-use Rattle.std.proofs.Common.{◌≡◌, ◌≤◌, ◌<◌, ◌+◌, ◌*◌, ℕ, [], List, length, get_or, take, subst, sym, ap, ◌∙◌, arith, vec_len}
+use Rattle.std.proofs.Common.{◌+◌, ◌*◌, [], get_or, take, sym, ap, ◌∙◌, arith}
 use Rattle.std.proofs.lemmas.List.{take_all, get_or_read}
 use Rattle.ann_pq.specs.Tables.{looked_up}
 use Rattle.ann_pq.proofs.Sums.{looked_up_more, entry_is, count_is, guided_is}
