@@ -11,8 +11,8 @@ use std::marker::Model;
 /// Room for a table of 256 distances for each of 64 parts.
 const ROOM: usize = 64 * 256;
 
-/// The distances of the parts of a query to all centroids, by which the distance to a decoded code is the sum of one
-/// number for each part (asymmetric distances of product quantisation; DiskANN, section 3.1).
+/// The distances of the parts of a query to all centroids, by which the distance to the vector that a code stands for is
+/// the sum of one number for each part (product quantisation; DiskANN, section 3.1).
 ///
 /// Contracts see for each part the list of its 256 distances, and none before the first `fill`. It has room for 64
 /// parts, in 64 KiB.

@@ -17,6 +17,13 @@ fn bytes_of(alloc: Global, d: u8, m: u8, factor: u8, mask: u8) -> Result<Vec<u8>
     Ok(bytes)
 }
 
+// A value that may go to another thread and be shared by several.
+fn shared<T: Send + Sync>(value: T) -> T
+    ensures { result ≡ value }
+{
+    value
+}
+
 // The codebook of these bytes.
 fn read(alloc: Global, bytes: &[u8], d: u16, m: u16) -> Result<Codebook, AllocError>
     requires { AreSizes d m }
@@ -105,14 +112,14 @@ fn a_tie_goes_to_the_first_centroid(rt: HostRuntime) -> Result<(), Fail> {
 #[test]
 fn parts_follow_each_other(rt: HostRuntime) -> Result<(), Fail> {
     let bytes = bytes_of(rt.alloc(), 6, 2, 37, 255)?;
-    let book = read(rt.alloc(), &bytes, 6, 2)?.copy()?;
+    let book = shared(read(rt.alloc(), &bytes, 6, 2)?.copy()?);
     let mut code = [0; 2];
     book.code(&[200, 10, 99, 0, 255, 128], &mut code);
     assert_eq!(rt; code, [99, 213]);
     let mut decoded = [0; 6];
     book.decode(&code, &mut decoded);
     assert_eq!(rt; decoded, [237, 18, 55, 91, 128, 165]);
-    let mut tables = Tables::with_room(rt.alloc())?;
+    let mut tables = shared(Tables::with_room(rt.alloc())?);
     tables.fill(&book, &[9, 8, 7, 6, 5, 4]);
     assert_eq!(rt; tables.distance(&code), 102_663);
     assert_eq!(rt; book.bytes(), bytes.as_slice());
