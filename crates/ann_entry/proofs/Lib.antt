@@ -1,0 +1,4 @@
+pub mod Writes
+pub mod Spelled
+pub mod Fronts
+pub mod Placed
