@@ -21,8 +21,10 @@ pub fn decode(
     at: usize,
     d: u16,
 ) -> Result<(Entry, usize), EntryRefused>
+    // What is read stands there, and what follows it is at the place that is given.
     ensures stands { IfOk result (λ found. StandsAt d bytes.now at found.0) }
     ensures after { IfOk result (λ found. found.1 ≡ at + length (entry_bytes found.0)) }
+    // Each refusal has its cause.
     ensures kind { IsErrOf result EntryRefused.Kind ↔ IsOtherKind bytes.now at }
     ensures short { IsErrOf result EntryRefused.Short ↔ EndsWithin d bytes.now at }
     // An entry that stands there is the one that is read, unless memory runs out.

@@ -13,6 +13,7 @@ use ann_types::{Entry, Tag, Vector};
 #[tactic(auto, unfolding(crate::specs::EntryBytes::entry_bytes))]
 pub fn encode(entry: &Entry, out: &mut [u8], at: usize) -> usize
     requires { at + length (entry_bytes entry.now) ≤ length out.old }
+    // The bytes from the place on are the entry's, and all others are as they were.
     ensures written { out.new ≡ with_field out.old at (entry_bytes entry.now) }
     ensures after { result ≡ at + length (entry_bytes entry.now) }
     // Where vectors have as many components as the entry's, the entry stands there now.
