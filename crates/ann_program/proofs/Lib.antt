@@ -1,5 +1,8 @@
 pub mod Counts
-pub mod OnePoint
+pub mod Finding
+pub mod Folded
+pub mod Judging
+pub mod Listing
 pub mod Serving
 mod Commands
 mod Ends

@@ -1,10 +1,10 @@
--- What the grammar leaves of a script: plain commands, at most one insert of a client, no more commands than lines.
-use Rattle.std.proofs.Common.{◌≡◌, ℕ, ◌+◌, ◌-◌, ◌<◌, ◌≤◌, ◌^◌, Bool, true, false, cond, List, [], ◌∷◌, ◌++◌, ◌&&◌, refl, sym, ap, subst, ◌∙◌, arith, length, ◌⊎◌, inl, inr}
+-- What the grammar leaves of a script: plain commands, and no more than lines.
+use Rattle.std.proofs.Common.{◌≡◌, ℕ, ◌+◌, ◌-◌, ◌<◌, ◌≤◌, ◌^◌, Bool, true, false, cond, List, [], ◌∷◌, ◌++◌, ◌&&◌, refl, sym, ap, subst, arith, length, ◌⊎◌, inl, inr}
 use Rattle.std.specs.Prelude.{Option, None, Some, Result, Ok, Err, take, nat_lt, nat_le, codes}
-use Rattle.std.specs.List.{AllByRecursion, list_any}
+use Rattle.std.specs.List.{AllByRecursion}
 use Rattle.std.specs.Str.{bytes_eq}
 use Rattle.std.specs.Str.Lines.{strip_carriage_return}
-use Rattle.std.proofs.lemmas.Bool.{true≢false, and_cases, or_parts, leb-true}
+use Rattle.std.proofs.lemmas.Bool.{leb-true}
 use Rattle.std.proofs.lemmas.List.Splits.{length-slice_split}
 use Rattle.std.proofs.lemmas.List.Sums.{count_by-le-length}
 use Rattle.ann_types.specs.declared.change.Change.{Change}
@@ -13,8 +13,8 @@ use Rattle.ann_script.specs.Words.{number_of, words}
 use Rattle.ann_script.specs.Order.{Order, Apply, Find}
 use Rattle.ann_script.specs.Grammar as grammar
 use Rattle.ann_script.specs.Grammar.{Line, Silent, Says, Bad}
-use Rattle.ann_script.specs.Script.{Client, added, is_insert, is_too_much, said, line_said, Whole, Long, lines_said, lines, is_line_feed, text_said, script_of, limit}
-use Rattle.ann_program.specs.Points.{insertions, all_insertions, IsPlain, IsServable, lines_limit}
+use Rattle.ann_script.specs.Script.{Client, added, said, line_said, Whole, Long, lines_said, lines, is_line_feed, text_said, script_of, limit}
+use Rattle.ann_program.specs.Servable.{IsPlain, IsServable, lines_limit}
 
 none_some : {A : Type 0} (x : A) → None ≡ Some x → ⊥
 none_some x e = cc
@@ -75,93 +75,51 @@ command_plain (verb ∷ operands) order e =
 
 -- ---- A command more
 
-insertions_few : (order : Order) → insertions order ≤ 1
-insertions_few (Apply changes batch) = omega arith
-insertions_few (Find k l vector) = omega arith
-
--- a plain command that is no insert inserts nothing
-no_insert : (order : Order) → IsPlain order → is_insert order ≡ false → insertions order ≡ 0
-no_insert (Apply changes batch) plain e = absurd (true≢false (sym (ap (λ changes. is_insert (Apply changes batch)) plain.2) ∙ e))
-no_insert (Find k l vector) plain e = refl
-
-no_inserts : (orders : List Order) → AllByRecursion IsPlain orders → list_any is_insert orders ≡ false → all_insertions orders ≡ 0
-no_inserts [] plain e = refl
-no_inserts (order ∷ orders) plain e =
-    let parts = or_parts (is_insert order) (list_any is_insert orders) e in
-    omega (arith, no_insert order plain.0 parts.0, no_inserts orders plain.1 parts.1)
-
 all_plain_last : (orders : List Order) (order : Order) → AllByRecursion IsPlain orders → IsPlain order → AllByRecursion IsPlain (orders ++ order ∷ [])
 all_plain_last [] order plain one = (one, tt)
 all_plain_last (first ∷ orders) order plain one = (plain.0, all_plain_last orders order plain.1 one)
-
-insertions_last : (orders : List Order) (order : Order) → all_insertions (orders ++ order ∷ []) ≡ all_insertions orders + insertions order
-insertions_last [] order = omega arith
-insertions_last (first ∷ orders) order = omega (arith, insertions_last orders order)
 
 length_last : (orders : List Order) (order : Order) → length (orders ++ order ∷ []) ≡ length orders + 1
 length_last [] order = refl
 length_last (first ∷ orders) order = omega (arith, length_last orders order)
 
 -- a client with one more command
-client_more : (most : ℕ) (client : Client) (order : Order) → IsPlain order → (is_insert order ≡ false) ⊎ (list_any is_insert client.orders ≡ false) → IsServable most client → IsServable (most + 1) (record client { orders = client.orders ++ order ∷ [] })
-client_more most client order one room s = record {
+client_more : (most : ℕ) (client : Client) (order : Order) → IsPlain order → IsServable most client → IsServable (most + 1) (record client { orders = client.orders ++ order ∷ [] })
+client_more most client order one s = record {
   plain = all_plain_last client.orders order s.plain one;
-  few = elim room [
-    | inl e ↦ omega (arith, insertions_last client.orders order, no_insert order one e, s.few)
-    | inr e ↦ omega (arith, insertions_last client.orders order, no_inserts client.orders s.plain e, insertions_few order)
-  ];
   short = omega (arith, length_last client.orders order, s.short);
 }
 
 client_new : (most : ℕ) (name : List ℕ) (order : Order) → IsPlain order → IsServable (most + 1) (record { name = name; orders = order ∷ [] })
-client_new most name order one = record {
-  plain = (one, tt);
-  few = omega (arith, insertions_few order);
-  short = omega arith;
-}
+client_new most name order one = record { plain = (one, tt); short = omega arith }
 
 client_weaker : (most : ℕ) (client : Client) → IsServable most client → IsServable (most + 1) client
-client_weaker most client s = record { plain = s.plain; few = s.few; short = omega (arith, s.short) }
+client_weaker most client s = record { plain = s.plain; short = omega (arith, s.short) }
 
 all_weaker : (most : ℕ) (clients : List Client) → AllByRecursion (IsServable most) clients → AllByRecursion (IsServable (most + 1)) clients
 all_weaker most [] s = tt
 all_weaker most (client ∷ clients) s = (client_weaker most client s.0, all_weaker most clients s.1)
 
-has_insert : Client → Bool
-has_insert client = list_any is_insert client.orders
-
-first_room : (order : Order) (client : Client) (others : List Client) → (is_insert order ≡ false) ⊎ (list_any (λ c. list_any is_insert c.orders) (client ∷ others) ≡ false) → ((is_insert order ≡ false) ⊎ (list_any is_insert client.orders ≡ false)) × ((is_insert order ≡ false) ⊎ (list_any (λ c. list_any is_insert c.orders) others ≡ false))
-first_room order client others (inl e) = (inl e, inl e)
-first_room order client others (inr e) =
-    let parts = or_parts (list_any is_insert client.orders) (list_any (λ c. list_any is_insert c.orders) others) e in
-    (inr parts.0, inr parts.1)
-
-added_servable : (most room : ℕ) (clients : List Client) (name : List ℕ) (order : Order) (more : List Client) → added room clients name order ≡ Some more → IsPlain order → (is_insert order ≡ false) ⊎ (list_any (λ c. list_any is_insert c.orders) clients ≡ false) → AllByRecursion (IsServable most) clients → AllByRecursion (IsServable (most + 1)) more
-added_servable most room [] name order more e one free s =
+added_servable : (most room : ℕ) (clients : List Client) (name : List ℕ) (order : Order) (more : List Client) → added room clients name order ≡ Some more → IsPlain order → AllByRecursion (IsServable most) clients → AllByRecursion (IsServable (most + 1)) more
+added_servable most room [] name order more e one s =
     elim (chosen (nat_lt 0 room) (Some (record { name = name; orders = order ∷ [] } ∷ [])) None more e) [
       | inl is ↦ subst (AllByRecursion (IsServable (most + 1))) (some_is (record { name = name; orders = order ∷ [] } ∷ []) more is) (client_new most name order one, tt)
       | inr none ↦ absurd (none_some more none)
     ]
-added_servable most room (client ∷ others) name order more e one free s =
-    let rooms = first_room order client others free in
+added_servable most room (client ∷ others) name order more e one s =
     elim (chosen (bytes_eq client.name name) _ _ more e) [
-      | inl is ↦ subst (AllByRecursion (IsServable (most + 1))) (some_is (record client { orders = client.orders ++ order ∷ [] } ∷ others) more is) (client_more most client order one rooms.0 s.0, all_weaker most others s.1)
+      | inl is ↦ subst (AllByRecursion (IsServable (most + 1))) (some_is (record client { orders = client.orders ++ order ∷ [] } ∷ others) more is) (client_more most client order one s.0, all_weaker most others s.1)
       | inr other ↦
           let rest = bound (added (room - 1) others name order) _ more other in
-          subst (AllByRecursion (IsServable (most + 1))) (some_is (client ∷ rest.0) more rest.2) (client_weaker most client s.0, added_servable most (room - 1) others name order rest.0 rest.1 one rooms.1 s.1)
+          subst (AllByRecursion (IsServable (most + 1))) (some_is (client ∷ rest.0) more rest.2) (client_weaker most client s.0, added_servable most (room - 1) others name order rest.0 rest.1 one s.1)
     ]
 
 -- ---- A line more
 
-one_more_if : (b : Bool) (x y : Option (List Client)) (z : List Client) → cond b x y ≡ Some z → x ≡ None → (b ≡ false) × (y ≡ Some z)
-one_more_if true x y z e none = absurd (none_some z (sym none ∙ e))
-one_more_if false x y z e none = (refl, e)
-
 line_servable : (most room : ℕ) (clients : List Client) (line : Line) (more : List Client) → ((name : List ℕ) (order : Order) → line ≡ Says name order → IsPlain order) → line_said room clients line ≡ Some more → AllByRecursion (IsServable most) clients → AllByRecursion (IsServable (most + 1)) more
 line_servable most room clients Silent more plain e s = subst (AllByRecursion (IsServable (most + 1))) (some_is clients more e) (all_weaker most clients s)
 line_servable most room clients (Says name order) more plain e s =
-    let kept = one_more_if (is_too_much clients order) None (added room clients name order) more e refl in
-    added_servable most room clients name order more kept.1 (plain name order refl) (and_cases (is_insert order) _ kept.0) s
+    added_servable most room clients name order more e (plain name order refl) s
 line_servable most room clients Bad more plain e s = absurd (none_some more e)
 
 line_if : (b : Bool) (x y : Line) (P : Line → Type 0) → P x → P y → P (cond b x y)
@@ -227,7 +185,7 @@ long_text_faulty room (line ∷ others) script some e = long_faulty room [] 1 li
 
 all_within : (most more : ℕ) (clients : List Client) → most ≤ more → AllByRecursion (IsServable most) clients → AllByRecursion (IsServable more) clients
 all_within most more [] within s = tt
-all_within most more (client ∷ clients) within s = (record { plain = s.0.plain; few = s.0.few; short = omega (arith, s.0.short) }, all_within most more clients within s.1)
+all_within most more (client ∷ clients) within s = (record { plain = s.0.plain; short = omega (arith, s.0.short) }, all_within most more clients within s.1)
 
 by_test : (b : Bool) (x y z : Result (List Client) ℕ) → cond b x y ≡ z → ((b ≡ true) × (x ≡ z)) ⊎ (y ≡ z)
 by_test true x y z e = inl (refl, e)
@@ -239,7 +197,7 @@ lines_few input = omega (arith, length-slice_split is_line_feed input, count_by-
 lines_some : (input : List ℕ) → 0 < length (lines input)
 lines_some input = omega (arith, length-slice_split is_line_feed input)
 
--- the clients of a script insert one point at most, and have fewer commands than the limit
+-- the clients of a script have plain commands, fewer than the limit
 pub script_servable : (room : ℕ) (input : List ℕ) (script : List Client) → script_of room input ≡ Ok script → AllByRecursion (IsServable (lines_limit - 1)) script
 script_servable room input script e =
     elim (by_test (nat_le (length input) limit) (text_said room Whole input) (text_said room Long (take limit input)) (Ok script) e) [

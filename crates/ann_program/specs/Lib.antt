@@ -1,5 +1,6 @@
 pub mod Words
 pub mod Once
-pub mod Points
+pub mod Session
+pub mod Servable
 pub mod Status
 pub mod Owed

@@ -2,11 +2,15 @@
 use Rattle.std.specs.Prelude.{ℕ, ◌+◌, Bool, List, [], ◌∷◌, ◌++◌, ◌==◌, Option, None, Some, map, length, replicate, if◌then◌else◌}
 use Rattle.ann_types.specs.Codes.{Book}
 use Rattle.ann_types.specs.Index.{Index}
-use Rattle.ann_types.specs.Lists.{BasedList, empty_list, with_entries, length_of, live_of}
-use Rattle.ann_types.specs.Fold.{fold_of}
+use Rattle.ann_types.specs.Graph.{Graph, empty_graph}
+use Rattle.ann_types.specs.Put.{put}
+use Rattle.ann_types.specs.Lists.{BasedList, empty_list, with_entries, length_of, makes_point, live_of}
+use Rattle.ann_types.specs.Fold.{State, start}
 use Rattle.ann_types.specs.Answer.{hits}
 use Rattle.ann_types.specs.Judge.{Refusal, Dimension, Full, Present, Absent, judge_all, entry_of}
 use Rattle.ann_types.specs.declared.params.Params.{Params}
+use Rattle.ann_types.specs.declared.entry.Entry.{Entry}
+use Rattle.ann_types.specs.declared.entry.Entry.TheVariants as entry
 use Rattle.ann_types.specs.declared.change.Change.{Change}
 use Rattle.ann_types.specs.declared.change.Change.TheVariants as change
 use Rattle.ann_script.specs.Order.{Order, Apply, Find}
@@ -27,6 +31,25 @@ zeros d = replicate 256 (replicate d 0) ∷ []
 -- the index of `once`
 abbrev pub once_index : Params → Index
 once_index params = record { params = params; book = zeros params.d }
+
+-- ---- The state of a list of entries
+
+-- a graph with the point of an entry, under this Pid
+abbrev pub with_point : Params → Graph → ℕ → Entry → Graph
+with_point params graph n (entry.Insert by tag vector) = put params graph n tag vector
+with_point params graph n (entry.Delete by tag) = graph
+with_point params graph n (entry.Begin by) = graph
+with_point params graph n (entry.End by segment) = graph
+with_point params graph n (entry.Replace by tag vector) = put params graph n tag vector
+
+-- a graph with the points of entries, each under the next Pid
+abbrev pub graph_from : Params → Graph → ℕ → List Entry → Graph
+graph_from params graph n [] = graph
+graph_from params graph n (e ∷ es) = graph_from params (with_point params graph n e) (n + (if makes_point e then 1 else 0)) es
+
+-- `once` keeps every point in one graph, which never freezes
+abbrev pub once_state : Params → BasedList → State
+once_state params h = record (start empty_graph) { rw = graph_from params empty_graph 0 h.entries }
 
 -- ---- The reply to a command, after a list of entries
 
@@ -59,7 +82,7 @@ update_reply changes batch at (Some r) = reply.Update (word_of r.0 r.1 at) batch
 
 abbrev pub search_reply : Index → BasedList → ℕ → ℕ → List ℕ → Reply
 search_reply index h k l vector =
-    if length vector == index.params.d then reply.Found (length_of h) (hits index (fold_of index h) k l vector)
+    if length vector == index.params.d then reply.Found (length_of h) (hits index (once_state index.params h) k l vector)
     else reply.Search (search_word.Dimension (length vector) index.params.d)
 
 abbrev pub reply_to : Index → BasedList → Order → Reply

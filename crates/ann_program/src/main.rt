@@ -7,7 +7,7 @@
 mod once;
 mod owed;
 mod run;
-mod single;
+mod session;
 #[cfg(test)]
 mod tests;
 mod words;

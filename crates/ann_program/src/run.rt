@@ -1,7 +1,7 @@
 ghost use Rattle.std.specs.Prelude.{◌≡◌, ◌≢◌, ◌≤◌, ◌-◌, map, IfOk, string_bytes};
 ghost use Rattle.std.specs.List.{AllByRecursion};
 ghost use Rattle.ann_script.specs.Faults.{Rose};
-ghost use Rattle.ann_program.specs.Points.{IsServable, lines_limit};
+ghost use Rattle.ann_program.specs.Servable.{IsServable, lines_limit};
 ghost use Rattle.ann_program.specs.Status.{Served, LineFault, line_fault_text, Ends, BreaksOff};
 ghost use Rattle.ann_program.specs.Owed.{IsDue, IsOwed};
 ghost use Rattle.ann_program.specs.declared.owed.Owed.TheVariants.{ReadFault};
@@ -38,7 +38,6 @@ fn line_at_fault(alloc: Global, number: u64) -> Owed
 
 /// What is owed for a script that was read.
 fn transcribed(alloc: Global, params: &Params, script: &Script) -> Owed
-    requires once { params.now.freeze_at ≡ 100000 }
     requires servable { AllByRecursion (IsServable (lines_limit - 1)) script.now }
     ensures { IsDue result (Served params.now script.now) }
 {

@@ -7,7 +7,7 @@ use Rattle.std.specs.List.{position_or_len, list_any}
 use Rattle.std.specs.Str.{bytes_eq}
 use Rattle.ann_script.specs.Order.{Order, order_of}
 use Rattle.ann_script.specs.Grammar.{◌>>=◌}
-use Rattle.ann_script.specs.Script.{Client, added, is_insert}
+use Rattle.ann_script.specs.Script.{Client, added}
 use Rattle.ann_script.specs.Parts.{client_of}
 use Rattle.ann_script.specs.declared.script.Part.{Part}
 use Rattle.ann_script.specs.declared.command.Command.{Command}
@@ -81,14 +81,3 @@ added-full room parts name order none full = added-new room parts name order non
 pub added-last : (room : ℕ) (parts parts' : List Part) (part : Part) (name : List ℕ) (command : Command) → list_any (named name) parts ≡ false → length parts < room → parts' ≡ parts ++ part ∷ [] → string_bytes part.name ≡ name → part.commands.items ≡ command ∷ [] → added room (map client_of parts) name (order_of command) ≡ Some (map client_of parts')
 added-last room parts parts' part name command none some more is commands =
     added-new room parts name (order_of command) none ∙ ap (λ t. cond t (Some (map client_of parts ++ client name (order_of command ∷ []) ∷ [])) None) (less (length parts) room some) ∙ ap (λ c. Some (map client_of parts ++ c ∷ [])) (sym (ap (λ n. client n (map order_of part.commands.items)) is ∙ ap (λ cs. client name (map order_of cs)) commands)) ∙ ap Some (sym (map-append client_of parts (part ∷ [])) ∙ ap (map client_of) (sym more))
-
--- whether a command inserts, of the parts and of their clients
-inserts-map : (commands : List Command) → list_any is_insert (map order_of commands) ≡ list_any (λ command. is_insert (order_of command)) commands
-inserts-map [] = refl
-inserts-map (c ∷ cs) = ap (λ t. is_insert (order_of c) || t) (inserts-map cs)
-
-pub any_inserts-map : (parts : List Part) → list_any (λ part. list_any (λ command. is_insert (order_of command)) part.commands.items) parts ≡ list_any (λ client. list_any is_insert client.orders) (map client_of parts)
-any_inserts-map [] = refl
-any_inserts-map (p ∷ ps) = ap (λ t. t || list_any (λ part. list_any (λ command. is_insert (order_of command)) part.commands.items) ps) (sym (inserts-map p.commands.items)) ∙ ap (λ t. list_any is_insert (map order_of p.commands.items) || t) (any_inserts-map ps)
-
-pub ruleset insert_steps = (any_inserts-map, refl)

@@ -1,10 +1,8 @@
 -- What a script says: its clients with their commands, or its first line at fault.
-use Rattle.std.specs.Prelude.{ℕ, ◌+◌, ◌-◌, ◌^◌, ◌==◌, ◌&&◌, nat_le, nat_lt, Bool, true, false, List, [], ◌∷◌, ◌++◌, length, take, Option, None, Some, Result, Ok, Err, if◌then◌else◌}
-use Rattle.std.specs.List.{slice_split, list_any}
+use Rattle.std.specs.Prelude.{ℕ, ◌+◌, ◌-◌, ◌^◌, ◌==◌, nat_le, nat_lt, Bool, List, [], ◌∷◌, ◌++◌, length, take, Option, None, Some, Result, Ok, Err, if◌then◌else◌}
+use Rattle.std.specs.List.{slice_split}
 use Rattle.std.specs.Str.{bytes_eq}
-use Rattle.ann_types.specs.declared.change.Change.{Change}
-use Rattle.ann_types.specs.declared.change.Change.TheVariants.{Insert, Delete, Replace}
-use Rattle.ann_script.specs.Order.{Order, Apply, Find}
+use Rattle.ann_script.specs.Order.{Order}
 use Rattle.ann_script.specs.Grammar.{Line, Silent, Says, Bad, line_of, ◌>>=◌}
 
 -- a client's name and its commands, in order
@@ -19,23 +17,10 @@ added room (client ∷ others) name order =
     if bytes_eq client.name name then Some (record client { orders = client.orders ++ order ∷ [] } ∷ others)
     else added (room - 1) others name order >>= λ more. Some (client ∷ more)
 
-abbrev pub is_insertion : Change → Bool
-is_insertion (Insert tag v) = true
-is_insertion (Delete tag) = false
-is_insertion (Replace tag v) = false
-
-abbrev pub is_insert : Order → Bool
-is_insert (Apply changes batch) = list_any is_insertion changes
-is_insert (Find k l v) = false
-
--- for now an index holds one point at most, so that a second insert is at fault
-abbrev pub is_too_much : List Client → Order → Bool
-is_too_much clients order = is_insert order && list_any (λ client. list_any is_insert client.orders) clients
-
 -- the clients with what was said, or none where that is at fault
 abbrev pub line_said : ℕ → List Client → Line → Option (List Client)
 line_said room clients Silent = Some clients
-line_said room clients (Says name order) = if is_too_much clients order then None else added room clients name order
+line_said room clients (Says name order) = added room clients name order
 line_said room clients Bad = None
 
 abbrev pub said : ℕ → List Client → List ℕ → Option (List Client)

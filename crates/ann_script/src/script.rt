@@ -1,16 +1,15 @@
 ghost use Rattle.std.specs.Prelude.{◌≡◌, ◌<◌, ◌≤◌, List, [], map, length, max, true, IfSome, IfOk, string_bytes, slice_get, position};
-ghost use Rattle.std.specs.List.{list_all, list_any};
+ghost use Rattle.std.specs.List.{list_all};
 ghost use Rattle.std.specs.Str.{bytes_eq};
-ghost use Rattle.ann_script.specs.Grammar.{Says, is_name_byte};
+ghost use Rattle.ann_script.specs.Grammar.{is_name_byte};
 ghost use Rattle.ann_script.specs.Order.{order_of};
-ghost use Rattle.ann_script.specs.Script.{added, line_said, said, is_too_much, is_insert, is_insertion};
+ghost use Rattle.ann_script.specs.Script.{added, said};
 ghost use Rattle.ann_script.specs.Parsed.{Becomes};
 ghost use Rattle.ann_script.specs.Parts.{client_of};
 
 use crate::command::Command;
 use crate::parse::{Saying, read_line};
 use crate::parse_refused::ParseRefused;
-use ann_types::Change;
 use std::alloc::{AllocError, Global};
 use std::marker::Model;
 
@@ -42,34 +41,6 @@ impl Model for Script {
     ghost invariant = { λ s. length s.parts.items < 2 ^ 32 };
 }
 
-/// Whether a change inserts a point.
-fn inserts_point(change: &Change) -> bool
-    ensures { result ≡ is_insertion change.now }
-{
-    match change {
-        Change::Insert { .. } => true,
-        Change::Delete { .. } => false,
-        Change::Replace { .. } => false,
-    }
-}
-
-/// Whether a change of these inserts a point.
-fn any_insertion(changes: &[Change]) -> bool
-    ensures { result ≡ list_any is_insertion changes.now }
-{
-    changes.iter().any(|change| inserts_point(change))
-}
-
-/// Whether a command inserts a point.
-fn inserts(command: &Command) -> bool
-    ensures { result ≡ is_insert (order_of command.now) }
-{
-    match command {
-        Command::Update { changes, batch: _ } => any_insertion(changes.items()),
-        Command::Search { ask: _ } => false,
-    }
-}
-
 /// The place of the client of this name.
 fn place_of(parts: &[Part], name: &[u8]) -> Option<usize>
     ensures { result ≡ position (λ p. bytes_eq (string_bytes p.name) name.now) parts.now }
@@ -88,28 +59,6 @@ fn name_of(alloc: Global, word: &[u8]) -> Result<String, AllocError>
         name.push(char::from(*byte))?;
     }
     Ok(name)
-}
-
-/// Whether a command of these inserts a point.
-fn any_inserts(commands: &[Command]) -> bool
-    ensures { result ≡ list_any (λ command. is_insert (order_of command)) commands.now }
-{
-    commands.iter().any(|command| inserts(command))
-}
-
-/// Whether a command so far inserts a point.
-fn has_insert(parts: &[Part]) -> bool
-    ensures { result ≡ list_any (λ part. list_any (λ command. is_insert (order_of command)) part.commands.items) parts.now }
-{
-    parts.iter().any(|part| any_inserts(&part.commands))
-}
-
-/// Whether a command is one too many: for now an index holds one point at most.
-#[tactic(auto, using(crate::proofs::Clients::insert_steps))]
-fn is_one_too_many(parts: &[Part], command: &Command) -> bool
-    ensures { result ≡ is_too_much (map client_of parts.now) (order_of command.now) }
-{
-    inserts(command) && has_insert(parts)
 }
 
 /// Adds a command to the client of this name, who is a new one where there is none of the name yet.
@@ -139,24 +88,6 @@ fn add(
     Ok(())
 }
 
-/// Adds a command, unless it is one too many.
-fn say_command(
-    parts: &mut Vec<Part>,
-    alloc: Global,
-    room: u32,
-    name: &[u8],
-    command: Command,
-) -> Result<(), ParseRefused>
-    requires { list_all is_name_byte name.now ≡ true }
-    ensures said { Becomes result (line_said room (map client_of parts.old.items) (Says name.now (order_of command))) (map client_of parts.new.items) }
-    ensures size { length parts.new.items ≤ max (length parts.old.items) room }
-{
-    if is_one_too_many(parts, &command) {
-        return Err(ParseRefused::Fault);
-    }
-    add(parts, alloc, room, name, command)
-}
-
 impl Script {
     /// A script without clients.
     pub(crate) fn new(alloc: Global) -> Script
@@ -174,13 +105,7 @@ impl Script {
         match read_line(alloc, line) {
             Err(refused) => Err(refused),
             Ok(Saying::Silent) => Ok(()),
-            Ok(Saying::Says { name, command }) => say_command(
-                &mut self.parts,
-                alloc,
-                room,
-                name,
-                command,
-            ),
+            Ok(Saying::Says { name, command }) => add(&mut self.parts, alloc, room, name, command),
         }
     }
 

@@ -16,7 +16,7 @@ const READ_FAULT: u64 = 1 << 40;
 
 const NO_MEMORY: u64 = 1 << 41;
 
-fn first_fault<S: Source>(alloc: Global, input: &mut S) -> u64 {
+fn fault_of<S: Source>(alloc: Global, input: &mut S) -> u64 {
     match Script::read(alloc, input, Verbs::Once, 1) {
         Ok(_) => 0,
         Err(ScriptRefused::Line { number }) => number,
@@ -25,12 +25,27 @@ fn first_fault<S: Source>(alloc: Global, input: &mut S) -> u64 {
     }
 }
 
+/// As `fault_of`, of this text, where the read of this number fails.
+fn fault_in(alloc: Global, text: &[u8], failing: u64) -> Result<u64, AllocError> {
+    let mut input = MemorySource::new(alloc, text, &[failing])?;
+    Ok(fault_of(alloc, &mut input))
+}
+
+/// A text with so many copies of another behind it.
+fn followed(alloc: Global, text: &[u8], more: &[u8], count: u32) -> Result<Vec<u8>, AllocError> {
+    let mut whole = Vec::from_slice(alloc, text)?;
+    for _ in 0..count {
+        whole.extend_from_slice(more)?;
+    }
+    Ok(whole)
+}
+
 /// Scripts, and the number of their first line at fault, or 0.
-const SCRIPTS: [(&str, u64); 33] = [
+const SCRIPTS: &[(&str, u64)] = &[
     ("", 0),
     ("a insert 7 3 4\na insert x 1 1\n", 2),
     ("a insert 7 3 4\na search 1 4 0 0", 0),
-    ("a insert 7 3 4\n\na insert 8 3", 3),
+    ("a insert 7 3 4\n\na insert 8 3", 0),
     (
         " \ta\tinsert  7 3 4 \t\r\n#a line\n\n \t\n# a insert 07 1\na search 1 4 0 0\r\n",
         0,
@@ -68,39 +83,65 @@ const SCRIPTS: [(&str, u64); 33] = [
 #[test]
 fn finds_the_first_line_at_fault(rt: HostRuntime) -> Result<(), Fail> {
     for (text, line) in SCRIPTS {
-        let mut input = MemorySource::new(rt.alloc(), text.as_bytes(), &[])?;
-        assert_eq!(rt; first_fault(rt.alloc(), &mut input), line, "{text}");
+        assert_eq!(rt; fault_in(rt.alloc(), text.as_bytes(), 0)?, *line, "{text}");
     }
     Ok(())
 }
 
+/// A front, what follows it, how often, the read that fails, and the fault.
+const LONG: &[(&str, &str, u32, u64, u64)] = &[
+    ("a insert 7", " 1", 1024, 0, 0),
+    ("a insert 7", " 1", 1025, 0, 1),
+    ("a search 1 1 0\n#", " no", 10_000, 1, READ_FAULT),
+    ("a search 1 1 0\n#", " no", 10_000, 2, READ_FAULT),
+    ("a search 1 1 0\n#", " no", 10_000, 9, 0),
+    ("!a search 1 1 0\n#", " no", 10_000, 2, 1),
+];
+
 #[test]
-fn limits_the_components(rt: HostRuntime) -> Result<(), Fail> {
-    for (count, line) in [(1024, 0), (1025, 1)] {
-        let mut text = Vec::from_slice(rt.alloc(), b"a insert 7")?;
-        for _ in 0..count {
-            text.extend_from_slice(b" 1")?;
-        }
-        let mut input = MemorySource::new(rt.alloc(), &text, &[])?;
-        assert_eq!(rt; first_fault(rt.alloc(), &mut input), line);
+fn limits_components_and_tells_read_faults_from_lines(rt: HostRuntime) -> Result<(), Fail> {
+    for (front, more, count, failing, fault) in LONG {
+        let text = followed(rt.alloc(), front.as_bytes(), more.as_bytes(), *count)?;
+        assert_eq!(rt; fault_in(rt.alloc(), &text, *failing)?, *fault, "{front}");
     }
     Ok(())
+}
+
+fn is_insert(command: &Command) -> bool {
+    match command {
+        Command::Update {
+            changes,
+            batch: false,
+        } =>
+            matches!(changes.items(), [Change::Insert { tag: 7, vector }] if vector.bytes() == [3, 4].as_slice()),
+        _ => false,
+    }
+}
+
+fn is_search(command: &Command) -> bool {
+    match command {
+        Command::Search { ask } => ask.k == 1
+            && ask.l == 4
+            && ask.vector.bytes() == [0, 9].as_slice(),
+        _ => false,
+    }
+}
+
+fn is_read(script: &Script) -> bool {
+    if script.clients() != 1 {
+        return false;
+    }
+    let commands = script.commands(0);
+    script.name(0) == "bob"
+        && commands.len() == 2
+        && is_insert(&commands[0])
+        && is_search(&commands[1])
 }
 
 #[test]
 fn reads_names_and_commands(rt: HostRuntime) -> Result<(), Fail> {
     let mut input = MemorySource::new(rt.alloc(), b"bob insert 7 3 4\nbob search 1 4 0 9\n", &[])?;
-    let script = Script::read(rt.alloc(), &mut input, Verbs::Once, 1)?;
-    assert_eq!(rt; script.clients(), 1);
-    assert_eq!(rt; script.name(0), "bob");
-    let commands = script.commands(0);
-    assert_eq!(rt; commands.len(), 2);
-    let insert = matches!(&commands[0], Command::Update { changes, batch: false }
-        if matches!(changes.items(), [Change::Insert { tag: 7, vector }] if vector.bytes() == [3, 4].as_slice()));
-    assert!(rt; insert);
-    let search = matches!(&commands[1], Command::Search { ask }
-        if ask.k == 1 && ask.l == 4 && ask.vector.bytes() == [0, 9].as_slice());
-    assert!(rt; search);
+    assert!(rt; is_read(&Script::read(rt.alloc(), &mut input, Verbs::Once, 1)?));
     Ok(())
 }
 
@@ -125,31 +166,13 @@ impl Source for Comment {
 
 #[test]
 fn limits_the_bytes(rt: HostRuntime) {
-    let full = 1 << 26;
-    for (left, line) in [(full, 0), (full + 1, 1)] {
-        let mut input = Comment { left };
-        assert_eq!(rt; first_fault(rt.alloc(), &mut input), line);
+    for (left, line) in [(1 << 26, 0), ((1 << 26) + 1, 1)] {
+        assert_eq!(rt; fault_of(rt.alloc(), &mut Comment { left }), line);
     }
-}
-
-#[test]
-fn tells_read_faults_from_lines(rt: HostRuntime) -> Result<(), Fail> {
-    let mut text = Vec::from_slice(rt.alloc(), b"a search 1 1 0\n#")?;
-    for _ in 0..10_000 {
-        text.extend_from_slice(b" no")?;
-    }
-    for (failing, fault) in [(1, READ_FAULT), (2, READ_FAULT), (9, 0)] {
-        let mut input = MemorySource::new(rt.alloc(), &text, &[failing])?;
-        assert_eq!(rt; first_fault(rt.alloc(), &mut input), fault);
-    }
-    text.insert(0, b'!')?;
-    let mut input = MemorySource::new(rt.alloc(), &text, &[2])?;
-    assert_eq!(rt; first_fault(rt.alloc(), &mut input), 1);
-    Ok(())
 }
 
 /// Accepted updates: kind, tag, changes and length of the list, with the reply.
-const ACCEPTED: [(Kind, Tag, u32, u64, &str); 5] = [
+const ACCEPTED: &[(Kind, Tag, u32, u64, &str)] = &[
     (Kind::Insert, 7, 1, 1, "a 1 inserted 7 at 1\n"),
     (Kind::Delete, 7, 1, 2, "a 1 deleted 7 at 2\n"),
     (Kind::Replace, 7, 1, 2, "a 1 replaced 7 at 2\n"),
@@ -164,7 +187,7 @@ const ACCEPTED: [(Kind, Tag, u32, u64, &str); 5] = [
 ];
 
 /// Refused updates, and whether they are batches, with the reply.
-const UPDATES: [(UpdateWord, bool, &str); 9] = [
+const UPDATES: &[(UpdateWord, bool, &str)] = &[
     (
         UpdateWord::Present {
             index: 0,
@@ -218,7 +241,7 @@ const UPDATES: [(UpdateWord, bool, &str); 9] = [
 ];
 
 /// Refused searches, with the reply.
-const SEARCHES: [(SearchWord, &str); 4] = [
+const SEARCHES: &[(SearchWord, &str)] = &[
     (
         SearchWord::Dimension { got: 3, want: 2 },
         "a 1 dimension 3 of 2\n",
@@ -228,65 +251,98 @@ const SEARCHES: [(SearchWord, &str); 4] = [
     (SearchWord::Shut, "a 1 shut\n"),
 ];
 
-fn line_of(alloc: Global, reply: &Reply) -> Result<Transcript, AllocError> {
+fn is_line(alloc: Global, reply: &Reply, text: &str) -> Result<bool, AllocError> {
     let mut transcript = Transcript::new(alloc);
     transcript.line("a", 1, reply)?;
+    Ok(transcript.bytes() == text.as_bytes())
+}
+
+#[test]
+fn writes_accepted_updates(rt: HostRuntime) -> Result<(), Fail> {
+    for (kind, tag, count, at, text) in ACCEPTED {
+        let reply = Reply::Accepted {
+            kind: *kind,
+            tag: *tag,
+            count: *count,
+            at: *at,
+        };
+        assert!(rt; is_line(rt.alloc(), &reply, text)?, "{text}");
+    }
+    Ok(())
+}
+
+#[test]
+fn writes_refused_updates(rt: HostRuntime) -> Result<(), Fail> {
+    for (refused, batch, text) in UPDATES {
+        let reply = Reply::Update {
+            refused: *refused,
+            batch: *batch,
+        };
+        assert!(rt; is_line(rt.alloc(), &reply, text)?, "{text}");
+    }
+    Ok(())
+}
+
+#[test]
+fn writes_refused_searches(rt: HostRuntime) -> Result<(), Fail> {
+    for (refused, text) in SEARCHES {
+        let reply = Reply::Search { refused: *refused };
+        assert!(rt; is_line(rt.alloc(), &reply, text)?, "{text}");
+    }
+    Ok(())
+}
+
+fn hits_of(alloc: Global, hits: &[Hit]) -> Result<HitList, AllocError> {
+    let mut list = HitList::new(alloc);
+    for hit in hits {
+        list.push(*hit)?;
+    }
+    Ok(list)
+}
+
+const HITS: &[Hit] = &[
+    Hit {
+        tag: 3,
+        distance: 0,
+    },
+    Hit {
+        tag: 4,
+        distance: 100,
+    },
+];
+
+fn found(alloc: Global) -> Result<Transcript, AllocError> {
+    let hits = hits_of(alloc, HITS)?;
+    let none = hits_of(alloc, &[])?;
+    let mut transcript = Transcript::new(alloc);
+    transcript.line("a", 10, &Reply::Found { at: 11, hits })?;
+    transcript.line("b-2", 4294967295, &Reply::Found { at: 0, hits: none })?;
+    transcript.last(11, 3)?;
     Ok(transcript)
 }
 
 #[test]
-fn writes_replies_to_updates(rt: HostRuntime) -> Result<(), Fail> {
-    for (kind, tag, count, at, text) in ACCEPTED {
-        let reply = Reply::Accepted {
-            kind,
-            tag,
-            count,
-            at,
-        };
-        assert_eq!(rt; line_of(rt.alloc(), &reply)?.bytes(), text.as_bytes());
-    }
-    for (refused, batch, text) in UPDATES {
-        let reply = Reply::Update { refused, batch };
-        assert_eq!(rt; line_of(rt.alloc(), &reply)?.bytes(), text.as_bytes());
-    }
+fn writes_hits_and_the_last_line(rt: HostRuntime) -> Result<(), Fail> {
+    let text =
+        b"a 10 found at 11 3:0 4:100\nb-2 4294967295 found at 0 none\nlog 11 entries, 3 live\n";
+    assert_eq!(rt; found(rt.alloc())?.bytes(), text.as_slice());
     Ok(())
 }
 
-#[test]
-fn writes_replies_to_searches(rt: HostRuntime) -> Result<(), Fail> {
-    for (refused, text) in SEARCHES {
-        let reply = Reply::Search { refused };
-        assert_eq!(rt; line_of(rt.alloc(), &reply)?.bytes(), text.as_bytes());
-    }
-    let mut hits = HitList::new(rt.alloc());
-    hits.push(Hit {
-        tag: 3,
-        distance: 0,
-    })?;
-    hits.push(Hit {
-        tag: 4,
-        distance: 100,
-    })?;
-    let none = HitList::new(rt.alloc());
-    let mut transcript = Transcript::new(rt.alloc());
-    transcript.line("a", 10, &Reply::Found { at: 11, hits })?;
-    transcript.line("b-2", 4294967295, &Reply::Found { at: 0, hits: none })?;
-    transcript.last(11, 3)?;
-    let text =
-        b"a 10 found at 11 3:0 4:100\nb-2 4294967295 found at 0 none\nlog 11 entries, 3 live\n";
-    assert_eq!(rt; transcript.bytes(), text.as_slice());
-    Ok(())
+/// Whether a sink of which this write fails takes a text, and whether it then holds these bytes.
+fn writes(alloc: Global, failing: u64, bytes: &[u8]) -> Result<(bool, bool), AllocError> {
+    let mut out = MemorySink::new(alloc, 5, &[failing])?;
+    let all = write_all(&mut out, b"a 1 inserted 7 at 1\n").is_ok();
+    Ok((all, out.bytes() == bytes))
 }
 
 #[test]
 fn writes_all_or_a_front(rt: HostRuntime) -> Result<(), Fail> {
-    let text = b"a 1 inserted 7 at 1\n";
-    let mut out = MemorySink::new(rt.alloc(), 5, &[2])?;
-    assert!(rt; write_all(&mut out, text).is_err());
-    assert_eq!(rt; out.bytes(), b"a 1 i".as_slice());
-    let mut out = MemorySink::new(rt.alloc(), 5, &[])?;
-    assert!(rt; write_all(&mut out, text).is_ok());
-    assert_eq!(rt; out.bytes(), text.as_slice());
+    assert_eq!(rt; writes(rt.alloc(), 2, b"a 1 i")?, (false, true));
+    assert_eq!(rt;
+        writes(rt.alloc(), 0, b"a 1 inserted 7 at 1\n")?,
+        (true, true)
+    );
     Ok(())
 }
 
