@@ -5,11 +5,15 @@
 //! by which a program in another language can be compared. Standard output is always the same line.
 #![tactic(auto)]
 
+mod blocks;
+mod codes;
 mod data;
 mod graph;
 mod kernels;
 mod report;
 
+use crate::blocks::time_blocks;
+use crate::codes::time_codes;
 use crate::data::generated;
 use crate::graph::time_graph;
 use crate::kernels::{time_offers, time_squared};
@@ -30,6 +34,8 @@ fn main(rt: HostRuntime) -> io::Result<()> {
     let queries = generated(rt.alloc(), 777, 200)?;
     time_squared(&rt, turns)?;
     time_offers(&rt, turns)?;
+    time_codes(&rt, turns)?;
+    time_blocks(&rt, turns)?;
     time_graph(&rt, points, turns, &queries)?;
     println!(rt; "timed")
 }

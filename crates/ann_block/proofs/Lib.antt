@@ -1,0 +1,6 @@
+pub mod Cleared
+pub mod Fields
+pub mod Headers
+pub mod Listed
+pub mod Nodes
+pub mod Rules

@@ -1,0 +1,56 @@
+-- What tests tell.
+use Rattle.std.proofs.Common.{◌≡◌, ◌≢◌, ℕ, Bool, true, false, not, List, ◌∷◌, ◌==◌, ◌&&◌, ◌||◌, Option, Some, None, Result, Ok, Err, IfOk, refl, sym, ap, ◌∙◌, if◌then◌else◌, []}
+use Rattle.std.proofs.lemmas.Bool.Decides.{Decides-eqb}
+use Rattle.ann_block.specs.Block.{first_broken}
+use Rattle.ann_block.specs.declared.refused.BlockRefused.{BlockRefused}
+
+pub both : (x y : Bool) → (x && y) ≡ true → (x ≡ true) × (y ≡ true)
+both true true is = (refl, refl)
+both true false is = (refl, is)
+both false y is = (is, cc)
+
+pub neither : (x y : Bool) → (x || y) ≡ false → (x ≡ false) × (y ≡ false)
+neither true y is = (is, cc)
+neither false y is = (refl, is)
+
+pub same : (x y : ℕ) → (x == y) ≡ true → x ≡ y
+same x y is = (Decides-eqb x y).0 is
+
+pub same_true : (x y : ℕ) → x ≡ y → (x == y) ≡ true
+same_true x y is = (Decides-eqb x y).1 is
+
+pub other : (x y : ℕ) → (x == y) ≡ false → x ≢ y
+other x y is = λ (equal : x ≡ y). absurd (true_is_false (sym (same_true x y equal) ∙ is))
+  where
+    true_is_false : true ≡ false → ⊥
+    true_is_false p = cc
+
+pub not_same : (x y : ℕ) → x ≢ y → (x == y) ≡ false
+not_same x y differ = elim (x == y) as (λ t. (x == y) ≡ t → t ≡ false) [ true ↦ λ is. absurd (differ (same x y is)) | false ↦ λ is. refl ] refl
+
+pub not_false : (x : Bool) → not x ≡ true → x ≡ false
+not_false true is = sym is
+not_false false is = refl
+
+-- each rule is met
+abbrev pub AreMet : List (Bool × BlockRefused) → Type 0
+AreMet [] = Unit {0}
+AreMet (rule ∷ rules) = (rule.0 ≡ true) × AreMet rules
+
+pub first_of : (rule : Bool) (why : BlockRefused) (rest : Option BlockRefused) → (if rule then rest else Some why) ≡ None → (rule ≡ true) × (rest ≡ None)
+first_of true why rest is = (refl, is)
+first_of false why rest is = cc
+
+-- no rule is broken where each is met
+pub all_met : (rules : List (Bool × BlockRefused)) → first_broken rules ≡ None → AreMet rules
+all_met [] is = tt
+all_met (rule ∷ rules) is = let here = first_of rule.0 rule.1 (first_broken rules) is in (here.0, all_met rules here.1)
+
+pub none_broken : (rules : List (Bool × BlockRefused)) → AreMet rules → first_broken rules ≡ None
+none_broken [] met = refl
+none_broken (rule ∷ rules) met = ap (λ (b : Bool). if b then first_broken rules else Some rule.1) met.0 ∙ none_broken rules met.1
+
+-- what is known of a result that is Ok
+pub when_ok : {A E : Type 0} {P Q : A → Type 0} (r : Result A E) → ((x : A) → P x → Q x) → IfOk r P → IfOk r Q
+when_ok (Ok x) step is = step x is
+when_ok (Err e) step is = is

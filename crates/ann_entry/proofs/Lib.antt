@@ -1,0 +1,5 @@
+pub mod Writes
+pub mod Spelled
+pub mod Fronts
+pub mod Placed
+pub mod Entries

@@ -1,0 +1,10 @@
+pub mod Places
+pub mod Pushes
+pub mod Columns
+pub mod Books
+pub mod Leasts
+pub mod Codings
+pub mod Decodings
+pub mod Sums
+pub mod Shapes
+pub mod Worked

@@ -1,0 +1,5 @@
+pub mod Codebook
+pub mod Format
+pub mod Tabled
+pub mod Tables
+pub mod Turned
