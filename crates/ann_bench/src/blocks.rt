@@ -1,8 +1,6 @@
-ghost use Rattle.std.specs.Prelude.{◌≡◌, length};
-
-use crate::data::{DIMENSION, generated};
 use crate::report::report;
-use ann_block::{read_node, write_node};
+use ann_block::read_node;
+use ann_bytes::{put_u16, put_u32};
 use ann_types::Params;
 use std::io;
 use std::time::CpuClock;
@@ -24,12 +22,18 @@ pub(crate) fn time_blocks(rt: &HostRuntime, turns: u32) -> io::Result<()> {
         return Ok(());
     };
     let mut block = [0; 4096];
-    let mut neighbours = [0; 64];
-    for i in 0..64 {
-        neighbours[i as usize] = 8 + 2 * i;
+    put_u32(&mut block, 0, 7);
+    put_u16(&mut block, 4, 64);
+    for i in 0..64u32 {
+        put_u32(&mut block, 144 + 4 * i as usize, 8 + 2 * i);
     }
-    write_node(7, 70, &[5; DIMENSION], &neighbours, &mut block);
     let start = rt.thread_cpu_time()?;
     let sum = reads(&block, &params, turns.wrapping_mul(100));
-    report(rt, "read_node", start, u64::from(turns.wrapping_mul(100)), sum)
+    report(
+        rt,
+        "read_node",
+        start,
+        u64::from(turns.wrapping_mul(100)),
+        sum,
+    )
 }
