@@ -1,0 +1,41 @@
+//! Times the kernels of the index on generated vectors.
+//!
+//! `ann_bench POINTS TURNS` builds a graph of so many points, and takes each timed loop so many times. The times go to
+//! standard error, a line each: a name, nanoseconds of the processor, how often it was done, and a sum of what came out,
+//! by which a program in another language can be compared. Standard output is always the same line.
+#![tactic(auto)]
+
+mod blocks;
+mod codes;
+mod data;
+mod graph;
+mod kernels;
+mod report;
+
+use crate::blocks::time_blocks;
+use crate::codes::time_codes;
+use crate::data::generated;
+use crate::graph::time_graph;
+use crate::kernels::{time_offers, time_squared};
+use std::{env, io};
+
+/// The number of a word of the command line, or another number where there is none.
+fn number_of(word: Option<String>, default: u32) -> u32 {
+    match word {
+        Some(word) => word.parse().unwrap_or(default),
+        None => default,
+    }
+}
+
+fn main(rt: HostRuntime) -> io::Result<()> {
+    let mut words = env::args(&rt)?.skip(1);
+    let points = number_of(words.next(), 200);
+    let turns = number_of(words.next(), 1);
+    let queries = generated(rt.alloc(), 777, 200)?;
+    time_squared(&rt, turns)?;
+    time_offers(&rt, turns)?;
+    time_codes(&rt, turns)?;
+    time_blocks(&rt, turns)?;
+    time_graph(&rt, points, turns, &queries)?;
+    println!(rt; "timed")
+}
