@@ -27,8 +27,8 @@ made x = Insert 0 x.tag x.vector
 abbrev pub list_of : Graph → BasedList
 list_of graph = record { base = empty_base; entries = map made graph.points }
 
--- the rows are the points of the one graph of the list so far, their Pids count from 0, and the map is that of the
--- live tags
+-- the rows are the points of the one graph of the list so far, their Pids are below their number, and the map is that
+-- of the live tags
 pub record Keeps (params : Params) (nodes : List Node) (pids : Pids) : Type 0 where
   pub graph : graph_from params empty_graph 0 (list_of (graph_of nodes)).entries ≡ graph_of nodes
   pub below : AllByRecursion (λ pid. pid < length nodes) (row_pids nodes)

@@ -1,10 +1,11 @@
-use Rattle.std.proofs.Common.{◌≡◌, ℕ, ◌+◌, ◌≤◌, sym, ap, ◌∙◌, subst, arith, map, drop}
+use Rattle.std.proofs.Common.{List, ◌++◌, ◌≡◌, ℕ, ◌+◌, ◌≤◌, sym, ap, ◌∙◌, subst, arith, map, drop}
 use Rattle.ann_types.specs.Lists.{BasedList, length_of}
 use Rattle.ann_types.specs.declared.params.Params.{Params}
 use Rattle.ann_script.specs.Order.{Order, order_of}
 use Rattle.ann_script.specs.declared.command.Command.{Command}
-use Rattle.ann_program.specs.Once.{once_index, reply_to, list_after}
+use Rattle.ann_program.specs.Once.{once_index, reply_to, list_after, lines_from}
 use Rattle.ann_program.specs.Servable.{IsPlain}
+use Rattle.ann_program.specs.Session.{Shown}
 use Rattle.ann_program.proofs.Commands.{next_order, text_on, after_long}
 use Rattle.ann_program.proofs.once.lines.Goals as goal
 
@@ -24,4 +25,17 @@ loop-command-preserved c =
       number = omega (arith, c.loop-command.invariant.number);
       same = c.reply.ensures.params ∙ c.loop-command.invariant.same;
       few = omega (arith, c.loop-command.invariant.few, long, length_is);
+    }
+
+abbrev pub loop-command-init : goal.loop-command-init
+loop-command-init c =
+    let params : Params = c.args.params.now in
+    let orders : List Order = map order_of c.args.commands.now in
+    record {
+      text =
+          ap (λ (t : List ℕ). t ++ lines_from (once_index params) c.args.name.now 1 c.in_ok-session.session.list orders) c.new-transcript.ensures
+          ∙ ap (λ (s : Shown). lines_from (once_index params) c.args.name.now 1 s.list orders) c.in_ok-session.ensures;
+      number = omega arith;
+      same = ap (λ (s : Shown). s.params) c.in_ok-session.ensures;
+      few = (let none = ap (λ (s : Shown). length_of s.list) c.in_ok-session.ensures in omega (arith, none));
     }
