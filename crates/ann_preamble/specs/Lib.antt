@@ -1,0 +1,5 @@
+pub mod Base
+pub mod Choice
+pub mod Preamble
+pub mod Reading
+pub mod Written
