@@ -20,7 +20,7 @@ use Rattle.ann_preamble.proofs.Joined.{laid, laid_is}
 same_true : (x y : ℕ) → x ≡ y → (x == y) ≡ true
 same_true x y is = (Decides-eqb x y).1 is
 
-not_same : (x y : ℕ) → x ≢ y → (x == y) ≡ false
+pub not_same : (x y : ℕ) → x ≢ y → (x == y) ≡ false
 not_same x y differ = elim (x == y) as (λ t. (x == y) ≡ t → t ≡ false) [ true ↦ λ is. absurd (differ ((Decides-eqb x y).0 is)) | false ↦ λ is. refl ] refl
 
 -- ---- a codebook's bytes

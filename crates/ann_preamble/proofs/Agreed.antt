@@ -14,7 +14,7 @@ use Rattle.ann_preamble.specs.Reading.{IsSoundIn, IsSaidBefore, HasFronts}
 use Rattle.ann_preamble.specs.declared.base.Base.{Base}
 use Rattle.ann_preamble.specs.declared.fields.Fields.{Fields}
 
-both : (x y : Bool) → (x && y) ≡ true → (x ≡ true) × (y ≡ true)
+pub both : (x y : Bool) → (x && y) ≡ true → (x ≡ true) × (y ≡ true)
 both true true is = (refl, refl)
 both true false is = (refl, is)
 both false y is = (is, cc)

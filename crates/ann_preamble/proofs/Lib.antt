@@ -1,3 +1,5 @@
 pub mod Agreed
 pub mod Again
+pub mod Cut
+pub mod Grammar
 pub mod Joined

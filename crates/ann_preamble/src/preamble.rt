@@ -1,6 +1,6 @@
-ghost use Rattle.std.specs.Prelude.{◌≡◌, true, IfOk, IfSome, Some};
+ghost use Rattle.std.specs.Prelude.{◌≡◌, ◌≤◌, true, IfOk, IfSome, Some};
 ghost use Rattle.ann_preamble.specs.Preamble.{gate_place, book_place, preamble_of, with_fields, said_by, said_by_found, fields_of, are_sound};
-ghost use Rattle.ann_preamble.specs.Reading.{IsSoundIn, IsSaidBefore, HasFronts};
+ghost use Rattle.ann_preamble.specs.Reading.{IsSoundIn, IsWrittenIn, IsSaidBefore, HasFronts};
 
 use crate::base::Base;
 use crate::fields::read_fields;
@@ -28,6 +28,8 @@ impl Preamble {
         ensures found { IfOk result (λ found. said_by_found found ≡ preamble_of bytes.now) }
         // Its parts go together, and the bytes have its first gate.
         ensures sound { IfOk result (λ found. IfSome found (λ p. IsSoundIn bytes.now (said_by p))) }
+        // What is read of version 2 is in the grammar of what is written.
+        ensures grammar { IfOk result (λ found. IfSome found (λ p. 1 ≤ p.generation → IsWrittenIn bytes.now p)) }
         // Bytes that agree up to the first gate say the same, whatever stands there and behind it.
         ensures before_the_gate { IfOk result (λ found. IfSome found (λ p. IsSaidBefore bytes.now (said_by p))) }
         // Where the file is cut it has the same preamble, or none.
