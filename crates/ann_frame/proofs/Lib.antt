@@ -1,0 +1,4 @@
+pub mod Each
+pub mod Filling
+pub mod Growing
+pub mod Steps

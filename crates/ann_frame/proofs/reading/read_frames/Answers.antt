@@ -1,0 +1,48 @@
+use Rattle.std.proofs.Common.{◌≡◌, ◌+◌, ◌-◌, ℕ, List, length, length-drop, take, drop, arith, rules, ap, sym, subst, ◌∙◌}
+use Rattle.std.proofs.lemmas.List.{take_rest}
+use Rattle.ann_frame.specs.Frames.{AreFrames}
+use Rattle.ann_frame.specs.Found.{HasFrame, IsRefusedFrame}
+use Rattle.ann_frame.proofs.Steps.{tail_here, byte_here, inside_here, shut_here, refused_here, frames_on, within_on}
+use Rattle.ann_frame.proofs.reading.read_frames.Goals as goal
+
+pub returns-in_err-at-clause-refused : goal.returns-in_err-at-clause-refused
+returns-in_err-at-clause-refused c =
+    let loop = c.loop-at in
+    let bytes = c.args.bytes.now in
+    let gate = c.args.gate in
+    let behind = loop.invariant.behind in
+    let same = take_rest bytes (loop.at + 1) ∙ tail_here bytes gate loop.at behind in
+    let frame = subst (λ (t : List ℕ). IsRefusedFrame c.args.d t (length loop.entries) c.in_err-at.field-0.0) same c.in_err-at.ensures.refused in
+    let refused = refused_here c.args.d (drop gate bytes) (loop.at - gate) loop.entries loop.invariant.frames (inside_here bytes gate loop.at behind loop.invariant.inside) (byte_here bytes gate loop.at behind ∙ c.loop-at-test.true) c.in_err-at.field-0.0 frame in
+    search (rules, refused)
+
+pub loop-at-preserved : goal.loop-at-preserved
+loop-at-preserved c =
+    let loop = c.loop-at in
+    let bytes = c.args.bytes.now in
+    let gate = c.args.gate in
+    let text = drop gate bytes in
+    let n = loop.at - gate in
+    let behind = loop.invariant.behind in
+    let place = c.in_ok-at.field-0 in
+    let after = c.read_frame.new.entries in
+    let same = take_rest bytes (loop.at + 1) ∙ tail_here bytes gate loop.at behind in
+    let inside = inside_here bytes gate loop.at behind loop.invariant.inside in
+    let opened = byte_here bytes gate loop.at behind ∙ c.loop-at-test.true in
+    let frame = subst (λ (t : List ℕ). HasFrame c.args.d t place loop.entries after) same c.in_ok-at.ensures.whole in
+    let within = within_on c.args.d text n loop.entries loop.invariant.frames inside opened place after frame in
+    record {
+      behind = omega (arith, behind);
+      inside = omega (arith, within, length-drop gate bytes, behind);
+      frames =
+          subst (λ (k : ℕ). AreFrames c.args.d (take k text) after) (omega (arith, behind))
+          (frames_on c.args.d text n loop.entries loop.invariant.frames inside opened place after frame);
+    }
+
+pub returns-clause-stands : goal.returns-clause-stands
+returns-clause-stands c =
+    let loop = c.loop-at in
+    let bytes = c.args.bytes.now in
+    let gate = c.args.gate in
+    let behind = loop.invariant.behind in
+    shut_here c.args.d (drop gate bytes) (loop.at - gate) loop.entries loop.invariant.frames (inside_here bytes gate loop.at behind loop.invariant.inside) (λ opened. c.loop-at-test.false (sym (byte_here bytes gate loop.at behind) ∙ opened))
