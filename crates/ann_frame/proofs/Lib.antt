@@ -2,3 +2,4 @@ pub mod Each
 pub mod Filling
 pub mod Growing
 pub mod Steps
+pub mod Once
