@@ -28,6 +28,7 @@ module _ (d : ℕ) where
       tail_fits : (zs ws : List Entry) → AreEntries d (zs ++ ws) → AreEntries d ws
       tail_fits [] ws fit = fit
       tail_fits (z ∷ zs) ws fit = tail_fits zs ws fit.1
+
       none_left : (more : List Entry) → ys ≡ xs ++ more → x ≡ entries_bytes more ++ y → more ≡ []
       none_left [] is begins = refl
       none_left (m ∷ more) is begins =
@@ -87,7 +88,7 @@ module _ (d : ℕ) where
   one_text (f ∷ fs) [] p q x y fs_fit gs_fit x_none y_none same = absurd (never_frame f fs q p y x fs_fit.0 y_none (sym same))
   one_text (f ∷ fs) (g ∷ gs) p q x y fs_fit gs_fit x_none y_none same =
       let whole : frame_bytes f ++ (frames_bytes fs ++ p ∷ x) ≡ frame_bytes g ++ (frames_bytes gs ++ q ∷ y) =
-          sym (append_assoc (frame_bytes f) (frames_bytes fs) (p ∷ x)) ∙ ap (drop 1) same ∙ append_assoc (frame_bytes g) (frames_bytes gs) (q ∷ y) in
+      sym (append_assoc (frame_bytes f) (frames_bytes fs) (p ∷ x)) ∙ ap (drop 1) same ∙ append_assoc (frame_bytes g) (frames_bytes gs) (q ∷ y) in
       let first = one_frame f g (frames_bytes fs ++ p ∷ x) (frames_bytes gs ++ q ∷ y) fs_fit.0 gs_fit.0 whole in
       let rest = one_text fs gs p q x y fs_fit.1 gs_fit.1 x_none y_none (one_behind f g (frames_bytes fs ++ p ∷ x) (frames_bytes gs ++ q ∷ y) fs_fit.0 gs_fit.0 whole) in
       (ap (λ t. t ∷ fs) first ∙ ap (λ t. g ∷ t) rest.0, rest.1)
@@ -131,9 +132,9 @@ module _ (d : ℕ) where
         ⊎_elim
         (λ short. absurd (omega (arith, long, whole, the_size, short)))
         (λ more. ⊎_elim
-          (λ nothing. absurd (omega (arith, the_size, some, five, nothing)))
-          (λ left. absurd (omega (arith, filled, left)))
-          more)
+        (λ nothing. absurd (omega (arith, the_size, some, five, nothing)))
+        (λ left. absurd (omega (arith, filled, left)))
+        more)
         broken.why
 
   broken_none : (tail : List ℕ) (n : ℕ) → IsBroken d tail n → NoFrame (1 ∷ tail)
@@ -168,9 +169,10 @@ module _ (d : ℕ) where
     pub stand_once : (xs ys : List Entry) (m n : ℕ) → StandFor d bytes xs m → StandFor d bytes ys n → (xs ≡ ys) × (m ≡ n)
     stand_once xs ys m n a b =
         let a_none = shut_none a.shown a.rest a.shut in
-        let b_none = shut_none b.shown b.rest b.shut in
-        (same_entries bytes a.front b.front xs ys a.frames b.frames a.shown b.shown a.rest b.rest a.cut b.cut a_none b_none,
-         a.place ∙ ap length (same_front bytes a.front b.front xs ys a.frames b.frames a.shown b.shown a.rest b.rest a.cut b.cut a_none b_none) ∙ sym b.place)
+        let b_none = shut_none b.shown b.rest b.shut in (
+          same_entries bytes a.front b.front xs ys a.frames b.frames a.shown b.shown a.rest b.rest a.cut b.cut a_none b_none,
+          a.place ∙ ap length (same_front bytes a.front b.front xs ys a.frames b.frames a.shown b.shown a.rest b.rest a.cut b.cut a_none b_none) ∙ sym b.place,
+        )
 
     pub bad_once : (m n : ℕ) → IsBadAt d bytes m → IsBadAt d bytes n → m ≡ n
     bad_once m n a b =

@@ -108,29 +108,35 @@ module _ (d : ℕ) (tail : List ℕ) (size : ℕ) (is : size ≡ size_of tail) (
 
     -- it isn't
     pub frame_broken : NoEntry d (drop end part) → (length tail ≤ 4 + size) ⊎ (size ≡ 0) ⊎ (0 < length (drop end part)) → IsRefusedFrame d tail (length before) (Bad (length after))
-    frame_broken none why =
-        (length read.entries, record {
-          entries = read.entries;
-          rest = drop end part;
-          each = read.each;
-          begins = ap (λ (n : ℕ). field tail 4 n) (sym is) ∙ sym part_is ∙ read.begins;
-          ends = none;
-          counted = refl;
-          why = subst (λ (n : ℕ). (length tail ≤ 4 + n) ⊎ (n ≡ 0) ⊎ (0 < length (drop end part))) is why;
-        }, ap length read.added ∙ length-append before read.entries)
+    frame_broken none why = (
+      length read.entries,
+      record {
+        entries = read.entries;
+        rest = drop end part;
+        each = read.each;
+        begins = ap (λ (n : ℕ). field tail 4 n) (sym is) ∙ sym part_is ∙ read.begins;
+        ends = none;
+        counted = refl;
+        why = subst (λ (n : ℕ). (length tail ≤ 4 + n) ⊎ (n ≡ 0) ⊎ (0 < length (drop end part))) is why;
+      },
+      ap length read.added ∙ length-append before read.entries,
+    )
 
 -- its length isn't there
 pub length_broken : (d : ℕ) (tail : List ℕ) (before : ℕ) → length tail < 4 → IsRefusedFrame d tail before (Bad before)
-length_broken d tail before short =
-    (0, record {
-      entries = [];
-      rest = [];
-      each = tt;
-      begins = ap (take (size_of tail)) (drop_all 4 tail (omega (arith, short))) ∙ take_all (size_of tail) [] (omega arith);
-      ends = none_short d [] (omega arith);
-      counted = refl;
-      why = inl (omega (arith, short));
-    }, omega arith)
+length_broken d tail before short = (
+  0,
+  record {
+    entries = [];
+    rest = [];
+    each = tt;
+    begins = ap (take (size_of tail)) (drop_all 4 tail (omega (arith, short))) ∙ take_all (size_of tail) [] (omega arith);
+    ends = none_short d [] (omega arith);
+    counted = refl;
+    why = inl (omega (arith, short));
+  },
+  omega arith,
+)
 
 -- ---- frames
 
