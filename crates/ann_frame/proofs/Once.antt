@@ -1,12 +1,12 @@
 -- No bytes stand for two things.
-use Rattle.std.proofs.Common.{◌≡◌, ◌≢◌, ◌⊎◌, inl, inr, ⊎_elim, ℕ, ◌+◌, ◌<◌, ◌≤◌, List, [], ◌∷◌, ◌++◌, length, get_or, take, drop, refl, sym, ap, subst, ◌∙◌, arith, append_assoc, length-append}
+use Rattle.std.proofs.Common.{◌≡◌, ◌≢◌, ◌⊎◌, inl, inr, ⊎_elim, ℕ, ◌≤◌, List, [], ◌∷◌, ◌++◌, length, get_or, take, drop, refl, sym, ap, subst, ◌∙◌, arith, append_assoc, length-append}
 use Rattle.std.specs.List.{AllByRecursion}
 use Rattle.std.proofs.lemmas.Bool.{cases_lt}
 use Rattle.std.proofs.lemmas.List.{append-nil, take_at, drop_at}
 use Rattle.ann_bytes.specs.LittleEndian.{number_of, field}
 use Rattle.ann_bytes.proofs.Numbers.{number_of-bytes_of}
 use Rattle.ann_types.specs.declared.entry.Entry.{Entry}
-use Rattle.ann_entry.specs.EntryBytes.{IsEntry, entry_bytes, entries_bytes}
+use Rattle.ann_entry.specs.EntryBytes.{entries_bytes}
 use Rattle.ann_entry.proofs.Entries.{first_stands}
 use Rattle.ann_entry.proofs.Fronts.{entries_front, one_list, length_entries}
 use Rattle.ann_frame.specs.Frames.{AreEntries, IsFrame, AreFrames, frame_bytes, frames_bytes, entries_of}

@@ -8,8 +8,8 @@ use Rattle.ann_entry.specs.EntryBytes.{IsEntry, entry_bytes, entries_bytes}
 use Rattle.ann_entry.specs.Standing.{StandsAt}
 use Rattle.ann_entry.proofs.Entries.{read_more}
 use Rattle.ann_entry.proofs.Spelled.{AreBytes, at_least_five}
-use Rattle.ann_frame.specs.Frames.{AreEntries, IsFrame, AreFrames, frame_bytes}
-use Rattle.ann_frame.specs.Text.{StandFor, NoEntry, size_of, IsBroken, IsBadAt}
+use Rattle.ann_frame.specs.Frames.{AreFrames, frame_bytes}
+use Rattle.ann_frame.specs.Text.{StandFor, NoEntry, size_of}
 use Rattle.ann_frame.specs.Found.{HasEntries, HasFrame, IsRefusedFrame, AreRefused}
 use Rattle.ann_frame.specs.declared.frames_refused.FramesRefused.{FramesRefused}
 use Rattle.ann_frame.specs.declared.frames_refused.FramesRefused.TheVariants.{Bad, Memory}

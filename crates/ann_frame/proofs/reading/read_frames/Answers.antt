@@ -1,4 +1,4 @@
-use Rattle.std.proofs.Common.{◌≡◌, ◌+◌, ◌-◌, ℕ, List, length, length-drop, take, drop, arith, rules, ap, sym, subst, ◌∙◌}
+use Rattle.std.proofs.Common.{◌+◌, ◌-◌, ℕ, List, length, length-drop, take, drop, arith, rules, sym, subst, ◌∙◌}
 use Rattle.std.proofs.lemmas.List.{take_rest}
 use Rattle.ann_frame.specs.Frames.{AreFrames}
 use Rattle.ann_frame.specs.Found.{HasFrame, IsRefusedFrame}

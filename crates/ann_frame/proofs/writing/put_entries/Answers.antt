@@ -1,4 +1,4 @@
-use Rattle.std.proofs.Common.{arith, ap, subst}
+use Rattle.std.proofs.Common.{arith, subst}
 use Rattle.std.proofs.lemmas.List.{take_all}
 use Rattle.ann_frame.specs.Frames.{AreEntries}
 use Rattle.ann_frame.proofs.Filling.{room_more, place_more, bytes_more, each_more}

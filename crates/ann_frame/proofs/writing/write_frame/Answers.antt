@@ -1,4 +1,4 @@
-use Rattle.std.proofs.Common.{◌+◌, ◌-◌, ◌∷◌, [], ℕ, length, arith, ap, ◌∙◌}
+use Rattle.std.proofs.Common.{◌∷◌, [], ℕ, length, arith, ap, ◌∙◌}
 use Rattle.ann_bytes.specs.LittleEndian.{bytes_of, with_field}
 use Rattle.ann_entry.specs.EntryBytes.{entries_bytes}
 use Rattle.ann_frame.proofs.Filling.{frame_written}
