@@ -1,0 +1,5 @@
+pub mod Each
+pub mod Filling
+pub mod Growing
+pub mod Steps
+pub mod Once
