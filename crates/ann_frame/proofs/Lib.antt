@@ -3,3 +3,4 @@ pub mod Filling
 pub mod Growing
 pub mod Steps
 pub mod Once
+pub mod Agrees

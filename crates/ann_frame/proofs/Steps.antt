@@ -48,7 +48,7 @@ read_next d bytes at next before now entry read inside stands after = record {
 
 -- ---- a frame
 
-take_small : (n : ℕ) (bytes : List ℕ) → AreBytes bytes → AreBytes (take n bytes)
+pub take_small : (n : ℕ) (bytes : List ℕ) → AreBytes bytes → AreBytes (take n bytes)
 take_small zero bytes small i = omega arith
 take_small (suc n) [] small i = omega arith
 take_small (suc n) (byte ∷ bytes) small zero = small 0

@@ -1,3 +1,4 @@
 pub mod Frames
 pub mod Text
 pub mod Found
+pub mod TextOf

@@ -3,7 +3,9 @@
 //! A gate is one byte, and it is open where it is 0x01. Behind an open gate stands a frame: the length of its entries in
 //! bytes (4), the entries, and the next gate. `write_frame` writes one, with a gate 0x00 behind it. `read_frames` gives
 //! the entries of all frames up to the first gate that isn't open, or the number of the first entry that isn't in the
-//! format. What bytes stand for is settled in specs/Text.antt, and no bytes stand for two things.
+//! format. What bytes stand for is settled in specs/Text.antt; specs/TextOf.antt says the same as a function. No bytes
+//! stand for two things, whole frames grow by a frame (proofs/Growing.antt), and behind a gate that isn't open anything
+//! may stand.
 #![tactic(auto)]
 
 mod entries;
