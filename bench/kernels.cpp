@@ -118,10 +118,15 @@ static void time_codes(u32 turns) {
         for (u32 i = 0; i < 100; i++)
             for (u32 p = 0; p < PARTS; p++) part_distances(book, &vectors[i * DIMENSION], p, &tables[p * 256]);
     report("fill", start, (u64)turns * 100, 0);
+    std::vector<u8> zeros(DIMENSION);
+    for (u32 p = 0; p < PARTS; p++) part_distances(book, zeros.data(), p, &tables[p * 256]);
     u32 codes = vectors.size() / PARTS;
     start = busy();
     sum = 0;
-    for (u32 t = 0; t < turns; t++) sum += guided_sum(tables.data(), vectors.data(), codes);
+    for (u32 t = 0; t < turns; t++) {
+        asm volatile("" : : "r"(tables.data()) : "memory"); // so that each turn reads the tables
+        sum += guided_sum(tables.data(), vectors.data(), codes);
+    }
     report("guided", start, (u64)turns * codes, sum);
 }
 
