@@ -43,8 +43,12 @@ pub record AreFront (header : Header) (items : List Item) : Type 0 where
 abbrev pub node_block : {S : Type 0} → SegmentView S → ℕ → ℕ
 node_block segment row = 1 + directory_blocks (length segment.items) segment.m + row
 
--- a page is the node block of a row by these parameters, and the code of its vector over the codebook is the directory's
-pub record IsNodeIn {S : Type 0} (segment : SegmentView S) (row : ℕ) (book : Shown) (params : Params) (page : List ℕ) : Type 0 where
-  pub block : judge_node page (item_of segment.items row).0 row (length segment.items) params ≡ None
+-- a page is the node block of this Pid in a row of so many, and its vector has this code over the codebook
+pub record IsNode (page : List ℕ) (pid row count : ℕ) (wanted : List ℕ) (book : Shown) (params : Params) : Type 0 where
+  pub block : judge_node page pid row count params ≡ None
   pub dimension : length (node_of params.d page).vector ≡ book.d
-  pub coded : code book.book (node_of params.d page).vector ≡ (item_of segment.items row).1
+  pub coded : code book.book (node_of params.d page).vector ≡ wanted
+
+-- a page is the node block of a row, and the code of its vector is the directory's
+abbrev pub IsNodeIn : {S : Type 0} → SegmentView S → ℕ → Shown → Params → List ℕ → Type 0
+IsNodeIn segment row book params page = IsNode page (item_of segment.items row).0 row (length segment.items) (item_of segment.items row).1 book params

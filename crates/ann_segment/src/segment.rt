@@ -4,7 +4,7 @@ ghost use Rattle.ann_types.specs.Codes.{code};
 ghost use Rattle.ann_vault.specs.Causes.{Rose, next_count};
 ghost use Rattle.ann_segment.specs.Directory.{Item, item_of, items_in};
 ghost use Rattle.ann_segment.specs.Opening.{segment_length, header_in, directory_in, IsFront, IsBadBlock};
-ghost use Rattle.ann_segment.specs.Segment.{SegmentView, IsSegment, IsEntryOf, node_block, IsNodeIn};
+ghost use Rattle.ann_segment.specs.Segment.{SegmentView, IsSegment, IsEntryOf, node_block, IsNode, IsNodeIn};
 ghost use Rattle.ann_segment.specs.declared.refused.SegmentRefused.TheVariants.{Disk, BadSegment};
 ghost use Rattle.ann_segment.specs.declared.refused.VerifyRefused.TheVariants.{Disk as Unread, BadSegment as BadNode};
 
@@ -175,7 +175,9 @@ impl<S: Sealed> Segment<S> {
     {
         let block = self.node_block(row);
         eye.read(&self.seal, 4096 * block, page)?;
-        if self.is_node(row, book, params, page) {
+        let pid = self.pid(row);
+        let count = self.count();
+        if is_node(page, pid, row, count, self.code(row), book, params) {
             Ok(())
         } else {
             Err(VerifyRefused::BadSegment { block })
@@ -192,16 +194,23 @@ impl<S: Sealed> Segment<S> {
     {
         1 + directory_blocks(self.count, self.m) + u64::from(row)
     }
+}
 
-    // A page is the node block of a row, and the code of its vector is the directory's.
-    fn is_node(&self, row: u32, book: &Codebook, params: &Params, page: &[u8]) -> bool
-        requires { row < length self.now.items }
-        ensures { IsTrue result ↔ IsNodeIn self.now row book.now params.now page.now }
-    {
-        match read_node(page, self.pid(row), row, self.count, params) {
-            Ok(node) => has_code(book, node.vector(), self.code(row)),
-            Err(_) => false,
-        }
+// A page is the node block of this Pid in a row of so many, and its vector has this code.
+fn is_node(
+    page: &[u8],
+    pid: Pid,
+    row: u32,
+    count: u32,
+    wanted: &[u8],
+    book: &Codebook,
+    params: &Params,
+) -> bool
+    ensures { IsTrue result ↔ IsNode page.now pid row count wanted.now book.now params.now }
+{
+    match read_node(page, pid, row, count, params) {
+        Ok(node) => has_code(book, node.vector(), wanted),
+        Err(_) => false,
     }
 }
 
