@@ -1,5 +1,5 @@
 -- What is seen of a segment, and of one that is being written.
-use Rattle.std.specs.Prelude.{◌≡◌, ℕ, ◌+◌, ◌*◌, ◌≤◌, ◌<◌, ◌^◌, List, length, None, Option, MatchOption, All}
+use Rattle.std.specs.Prelude.{◌≡◌, ℕ, ◌+◌, ◌<◌, List, length, None, Option, MatchOption, All}
 use Rattle.ann_types.specs.Codes.{code}
 use Rattle.ann_types.specs.declared.params.Params.{Params}
 use Rattle.ann_block.specs.Header.{IsHeader}

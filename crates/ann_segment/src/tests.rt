@@ -7,24 +7,25 @@ use std::test::Fail;
 // The bytes of the header and the directory of a segment with number 13, d 1, R 2, m 1 and the Pids 0 and 522, and two
 // blocks of zeros; one byte is another.
 fn text(alloc: Global, at: usize, byte: u8) -> Result<Vec<u8>, AllocError> {
-    let mut bytes = vec![in alloc; 0; 16384]?;
-    bytes[..8].copy_from_slice(b"ANNSEG01");
-    for (place, value) in [
-        (8, 13),
-        (16, 1),
-        (18, 2),
-        (20, 1),
-        (24, 2),
-        (4100, 10),
-        (4101, 10),
-        (4102, 2),
-    ] {
-        bytes[place] = value;
-    }
+    let mut bytes = b"ANNSEG01".to_vec(alloc)?;
+    bytes.resize(16384, 0)?;
+    put(&mut bytes, 8, 13);
+    put(&mut bytes, 16, 1);
+    put(&mut bytes, 18, 2);
+    put(&mut bytes, 20, 1);
+    put(&mut bytes, 24, 2);
+    put(&mut bytes, 4100, 10);
+    put(&mut bytes, 4101, 10);
+    put(&mut bytes, 4102, 2);
+    put(&mut bytes, at, byte);
+    Ok(bytes)
+}
+
+// Writes a byte, where its place is there.
+fn put(bytes: &mut [u8], at: usize, byte: u8) {
     if at < bytes.len() {
         bytes[at] = byte;
     }
-    Ok(bytes)
 }
 
 // How many rows the segment has with a byte changed, or why it isn't opened.

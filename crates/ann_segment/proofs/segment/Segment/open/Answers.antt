@@ -1,4 +1,4 @@
-use Rattle.std.proofs.Common.{◌≡◌, ℕ, ◌+◌, ◌*◌, ◌≤◌, length, sym, ap, subst, ◌∙◌, arith}
+use Rattle.std.proofs.Common.{ℕ, ◌+◌, ◌*◌, ◌≤◌, sym, ap, subst, ◌∙◌}
 use Rattle.ann_block.specs.declared.header.Header.{Header}
 use Rattle.ann_segment.specs.Opening.{segment_length}
 use Rattle.ann_segment.specs.Segment.{IsEntryOf}

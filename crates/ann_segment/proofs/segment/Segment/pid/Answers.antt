@@ -1,4 +1,4 @@
-use Rattle.std.proofs.Common.{◌≡◌, ℕ, ◌+◌, ◌*◌, ◌≤◌, ◌<◌, List, length, sym, ap, ◌∙◌, arith}
+use Rattle.std.proofs.Common.{◌≡◌, ℕ, ◌+◌, ◌*◌, ◌≤◌, List, length, sym, ap, ◌∙◌, arith}
 use Rattle.ann_segment.specs.Directory.{item_of, pid_at}
 use Rattle.ann_segment.specs.Segment.{SegmentView}
 use Rattle.ann_segment.proofs.Rows.{length-items, row_within, pid_is}

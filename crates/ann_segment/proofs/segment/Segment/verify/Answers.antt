@@ -1,5 +1,4 @@
 use Rattle.std.proofs.Common.{rules, ◌≡◌, sym, ◌∙◌}
-use Rattle.ann_segment.specs.Directory.{item_of}
 use Rattle.ann_segment.specs.Segment.{IsNode}
 use Rattle.ann_segment.proofs.Rows.{node_moved}
 use Rattle.ann_segment.proofs.segment.Segment.verify.Goals as goal

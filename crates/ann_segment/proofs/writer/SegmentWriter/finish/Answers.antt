@@ -1,4 +1,4 @@
-use Rattle.std.proofs.Common.{◌≡◌, ℕ, ◌+◌, ◌*◌, ◌≤◌, length, sym, ap, subst, ◌∙◌, arith}
+use Rattle.std.proofs.Common.{ℕ, ◌+◌, ◌*◌, length, sym, ap, subst, ◌∙◌}
 use Rattle.ann_segment.specs.Directory.{directory_blocks}
 use Rattle.ann_segment.specs.Opening.{segment_length}
 use Rattle.ann_segment.specs.Segment.{IsEntryOf, WriterView}

@@ -1,4 +1,4 @@
-use Rattle.std.proofs.Common.{◌≡◌, ℕ, ◌+◌, ◌*◌, ◌≤◌, List, ◌++◌, take, replicate, length, sym, ap, subst, ◌∙◌, arith}
+use Rattle.std.proofs.Common.{◌≡◌, ℕ, ◌+◌, ◌*◌, List, ◌++◌, take, replicate, length, sym, ap, subst, ◌∙◌, arith}
 use Rattle.ann_segment.specs.Directory.{AreRising, blocks_of}
 use Rattle.ann_segment.proofs.Rows.{length-directory, items_back, front_is, front_long, take-replicate}
 use Rattle.ann_segment.proofs.writer.SegmentWriter.start.Goals as goal
