@@ -7,7 +7,9 @@ FOLDER takes the scripts and the programs that are built (some 200 MB). POINTS a
 given. The proved programs are those that `rt run` left in crates/ann_program and crates/ann_bench; where they are not there,
 `rt run` makes them. Both sides are compiled for the same processor, x86-64-v2.
 """
-import os, resource, subprocess, sys
+import os
+import subprocess
+import sys
 
 HERE = os.path.dirname(os.path.abspath(__file__))
 TOP = os.path.dirname(HERE)
@@ -41,75 +43,68 @@ def script(folder, maker, kind, points, searches, k, l):
     return path
 
 
-def timed(program, words, path, turns=3):
-    """The least processor seconds of some runs, the greatest memory in MB, and what was written."""
-    best, memory, text = None, 0, b""
-    for _ in range(turns):
-        read, write = os.pipe()
-        child = os.fork()
-        if child == 0:
-            os.dup2(os.open(path, os.O_RDONLY), 0)
-            os.dup2(os.open(path + ".out", os.O_WRONLY | os.O_CREAT | os.O_TRUNC, 0o644), 1)
-            os.execv(program, [program, *words])
-        _, status, usage = os.wait4(child, 0)
-        if status != 0:
-            sys.exit(f"{program} ended with {status}")
-        seconds = usage.ru_utime + usage.ru_stime
-        best = seconds if best is None else min(best, seconds)
-        memory = usage.ru_maxrss / 1024
-        text = open(path + ".out", "rb").read()
-    return best, memory, text
+def once_timed(program, words, path):
+    """The processor seconds of a run, the greatest memory in MB, and what was written."""
+    child = os.fork()
+    if child == 0:
+        os.dup2(os.open(path, os.O_RDONLY), 0)
+        os.dup2(os.open(path + ".out", os.O_WRONLY | os.O_CREAT | os.O_TRUNC, 0o644), 1)
+        os.execv(program, [program, *words])
+    _, status, usage = os.wait4(child, 0)
+    if status != 0:
+        sys.exit(f"{program} ended with {status}")
+    return usage.ru_utime + usage.ru_stime, usage.ru_maxrss / 1024, open(path + ".out", "rb").read()
 
 
-def compare(folder, ours, theirs, maker, kind, points):
+def timed(programs, words, path, turns):
+    """For each program the least seconds of some turns, its memory, and what it wrote; the programs take turns."""
+    runs = [[once_timed(program, words, path) for program in programs] for _ in range(turns)]
+    return [(min(run[i][0] for run in runs), runs[0][i][1], runs[0][i][2]) for i in range(len(programs))]
+
+
+def compare(folder, programs, maker, kind, points):
     words = ["once", D, R, L, ALPHA]
     other = ["once", "127", R, L, ALPHA]  # every line is refused, so that only the reading is timed
-    turns = 1 if points > 20000 else 3
+    turns = 1 if points > 20000 else 5
     bare = script(folder, maker, kind, points, 0, 10, 10)
-    reading = [timed(p, other, bare, turns)[0] for p in (ours, theirs)]
-    base, memory, texts = [], [], []
-    for p, r in zip((ours, theirs), reading):
-        seconds, mb, text = timed(p, words, bare, turns)
-        base.append(seconds)
-        memory.append(mb)
-        texts.append(text)
-    insert = [(b - r) / points * 1e6 for b, r in zip(base, reading)]
-    print(f"{kind} {points} insert: {insert[0]:.1f} us, C++ {insert[1]:.1f} us, ratio {insert[0] / insert[1]:.2f}, same transcript {texts[0] == texts[1]}")
-    print(f"{kind} {points} memory: {memory[0]:.0f} MB, C++ {memory[1]:.0f} MB, ratio {memory[0] / memory[1]:.2f}")
+    reading, base = timed(programs, other, bare, turns), timed(programs, words, bare, turns)
+    insert = [(b[0] - r[0]) / points * 1e6 for b, r in zip(base, reading)]
+    print(f"{kind} {points} insert: {insert[0]:.1f} us, C++ {insert[1]:.1f} us, ratio {insert[0] / insert[1]:.2f}, same transcript {base[0][2] == base[1][2]}")
+    print(f"{kind} {points} memory: {base[0][1]:.0f} MB, C++ {base[1][1]:.0f} MB, ratio {base[0][1] / base[1][1]:.2f}", flush=True)
     if points > 20000:
         return
     for l in WIDTHS:
         path = script(folder, maker, kind, points, SEARCHES, 10, l)
-        search, texts = [], []
-        for p, b in zip((ours, theirs), base):
-            refused = timed(p, other, path, turns)[0]
-            whole, _, text = timed(p, words, path, turns)
-            # less the inserts, and less the reading of the searches
-            search.append(((whole - b) - (refused - reading[0 if p == ours else 1])) / SEARCHES * 1e6)
-            texts.append(text)
-        print(f"{kind} {points} search l {l}: {search[0]:.1f} us, C++ {search[1]:.1f} us, ratio {search[0] / search[1]:.2f}, same hits {texts[0] == texts[1]}")
+        refused, whole = timed(programs, other, path, turns), timed(programs, words, path, turns)
+        # less the inserts, and less the reading of the searches
+        search = [((w[0] - b[0]) - (f[0] - r[0])) / SEARCHES * 1e6 for w, b, f, r in zip(whole, base, refused, reading)]
+        print(f"{kind} {points} search l {l}: {search[0]:.1f} us, C++ {search[1]:.1f} us, ratio {search[0] / search[1]:.2f}, same hits {whole[0][2] == whole[1][2]}", flush=True)
 
 
 def kernels(folder, points, turns):
-    ours = subprocess.run([built("ann_bench"), str(points), str(turns)], stderr=subprocess.PIPE, stdout=subprocess.DEVNULL, check=True).stderr
-    theirs = subprocess.run([compiled(folder, "kernels"), str(points), str(turns)], stdout=subprocess.PIPE, check=True).stdout
-    for mine, other in zip(ours.decode().splitlines(), theirs.decode().splitlines()):
-        name, nanos, count, total = mine.split()
-        name2, nanos2, count2, total2 = other.split()
-        if (name, count, total) != (name2, count2, total2):
+    """The timed loops of both sides: for each the least time of five runs in turns."""
+    programs = (built("ann_bench"), compiled(folder, "kernels"))
+    runs = []
+    for _ in range(5):
+        ours = subprocess.run([programs[0], str(points), str(turns)], stderr=subprocess.PIPE, stdout=subprocess.DEVNULL, check=True).stderr
+        theirs = subprocess.run([programs[1], str(points), str(turns)], stdout=subprocess.PIPE, check=True).stdout
+        runs.append([[line.split() for line in out.decode().splitlines()] for out in (ours, theirs)])
+    for i, (mine, other) in enumerate(zip(*runs[0])):
+        if (mine[0], mine[2:]) != (other[0], other[2:]):
             sys.exit(f"{mine} and {other} differ")
-        print(f"{name}: {int(nanos) / int(count):.1f} ns, C++ {int(nanos2) / int(count2):.1f} ns, ratio {int(nanos) / int(nanos2):.2f}")
+        best = [min(int(run[side][i][1]) for run in runs) / int(mine[2]) for side in (0, 1)]
+        print(f"{mine[0]}: {best[0]:.1f} ns, C++ {best[1]:.1f} ns, ratio {best[0] / best[1]:.2f}", flush=True)
 
 
 def main():
     folder = sys.argv[1]
     os.makedirs(folder, exist_ok=True)
     sizes = [int(n) for n in sys.argv[2:]] or [10000]
-    kernels(folder, 2000, 200)
+    kernels(folder, 2000, 40)
     maker, theirs, ours = compiled(folder, "vectors"), compiled(folder, "once"), built("ann_program")
     for points in sizes:
         for kind in ("close", "even"):
-            compare(folder, ours, theirs, maker, kind, points)
+            compare(folder, (ours, theirs), maker, kind, points)
 
 
 main()

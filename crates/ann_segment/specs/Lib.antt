@@ -1,0 +1,4 @@
+pub mod Directory
+pub mod Text
+pub mod Opening
+pub mod Segment

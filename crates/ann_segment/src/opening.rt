@@ -1,0 +1,151 @@
+// Reading the header and the directory of a segment.
+ghost use Rattle.std.specs.Prelude.{◌≡◌, ◌≢◌, ◌≤◌, ◌<◌, ◌+◌, ◌-◌, ◌*◌, ℕ, length, slice_range, IfOk, IfErr, IfSome, None, MatchOption, IsErrOf, IsTrue, ◌↔◌};
+ghost use Rattle.ann_vault.specs.Causes.{Rose};
+ghost use Rattle.ann_block.specs.Header.{IsHeader, header_of};
+ghost use Rattle.ann_segment.specs.Directory.{AreRising, directory_blocks, items_in, pid_at};
+ghost use Rattle.ann_segment.specs.Opening.{segment_length, IsHeaderFor, IsFirstBlock, BeginsWell, header_in, directory_in, IsDirectory, IsFirstRefused, IsFront, IsBadBlock};
+ghost use Rattle.ann_segment.specs.declared.refused.SegmentRefused.TheVariants.{Disk, BadSegment};
+
+use crate::SegmentRefused;
+use crate::fields::{BLOCK, directory_blocks, pid_at, segment_length};
+use ann_block::{Header, read_header};
+use ann_types::Params;
+use ann_vault::{Eye, Sealed};
+use std::alloc::Global;
+
+// What stands before the nodes: the header, and the directory with the zeros behind it.
+#[derive(Drop)]
+pub(crate) struct Front {
+    pub(crate) header: Header,
+    pub(crate) directory: Vec<u8>,
+}
+
+/// Reads the header and the directory of a segment.
+pub(crate) fn read_front<S: Sealed, E: Eye<Seal = S>>(
+    alloc: Global,
+    seal: &S,
+    number: u64,
+    params: &Params,
+    eye: &mut E,
+) -> Result<Front, SegmentRefused>
+    ensures header { IfOk result (λ front. IsHeader front.header × IsHeaderFor number params.now front.header) }
+    ensures rows { IfOk result (λ front. length front.directory.items ≡ 4096 * directory_blocks front.header.count front.header.m) }
+    ensures rising { IfOk result (λ front. AreRising (items_in front.header.m front.header.count front.directory.items)) }
+    ensures told { S.tells → IfOk result (λ front. IsFront number params.now (S.bytes seal.now) × (front.header ≡ header_in (S.bytes seal.now)) × (front.directory.items ≡ directory_in front.header (S.bytes seal.now))) }
+    ensures refused { S.tells → IfErr result (λ why. (block : ℕ) → why ≡ BadSegment block → IsBadBlock number params.now (S.bytes seal.now) block) }
+    ensures later { E.faults eye.old ≤ E.faults eye.new }
+    ensures disk { IfErr result (λ why. why ≡ Disk → Rose (E.faults eye.old) (E.faults eye.new)) }
+{
+    let header = read_first(seal, number, params, eye)?;
+    let directory = read_directory(alloc, seal, &header, eye)?;
+    match refused_block(&directory, header.count, header.m) {
+        None => Ok(Front { header, directory }),
+        Some(block) => Err(SegmentRefused::BadSegment { block }),
+    }
+}
+
+// Reads the header block.
+fn read_first<S: Sealed, E: Eye<Seal = S>>(
+    seal: &S,
+    number: u64,
+    params: &Params,
+    eye: &mut E,
+) -> Result<Header, SegmentRefused>
+    ensures header { IfOk result (λ header. IsHeader header × IsHeaderFor number params.now header) }
+    ensures told { S.tells → IfOk result (λ header. BeginsWell number params.now (S.bytes seal.now) × (header ≡ header_in (S.bytes seal.now))) }
+    ensures refused { S.tells → IfErr result (λ why. (block : ℕ) → why ≡ BadSegment block → (block ≡ 0) × (BeginsWell number params.now (S.bytes seal.now) → ⊥)) }
+    ensures later { E.faults eye.old ≤ E.faults eye.new }
+    ensures disk { IfErr result (λ why. why ≡ Disk → Rose (E.faults eye.old) (E.faults eye.new)) }
+{
+    let long = eye.length(seal)?;
+    if long < BLOCK as u64 {
+        return Err(SegmentRefused::BadSegment { block: 0 });
+    }
+    let mut block = [0; BLOCK];
+    eye.read(seal, 0, &mut block)?;
+    match expected_header(&block, long, number, params) {
+        Some(header) => Ok(header),
+        None => Err(SegmentRefused::BadSegment { block: 0 }),
+    }
+}
+
+// The header in a block, where it is that of the expected segment.
+fn expected_header(block: &[u8], long: u64, number: u64, params: &Params) -> Option<Header>
+    ensures { MatchOption result
+        (IsFirstBlock number params.now long block.now → ⊥)
+        (λ header. IsFirstBlock number params.now long block.now × (header ≡ header_of block.now) × IsHeader header) }
+{
+    let Ok(header) = read_header(block) else {
+        return None;
+    };
+    if is_expected(&header, number, params) && long == segment_length(header.count, header.m) {
+        Some(header)
+    } else {
+        None
+    }
+}
+
+// The header has the expected number and sizes.
+fn is_expected(header: &Header, number: u64, params: &Params) -> bool
+    ensures { IsTrue result ↔ IsHeaderFor number params.now header.now }
+{
+    header.number == number && header.d == params.d && header.r == params.r && header.m == params.m
+}
+
+// Reads the directory blocks.
+#[tactic(auto, unfolding(crate::specs::Opening::segment_length))]
+fn read_directory<S: Sealed, E: Eye<Seal = S>>(
+    alloc: Global,
+    seal: &S,
+    header: &Header,
+    eye: &mut E,
+) -> Result<Vec<u8>, SegmentRefused>
+    requires header { IsHeader header.now }
+    requires long { S.tells → length (S.bytes seal.now) ≡ segment_length header.now.count header.now.m }
+    ensures rows { IfOk result (λ directory. length directory.items ≡ 4096 * directory_blocks header.now.count header.now.m) }
+    ensures told { S.tells → IfOk result (λ directory. directory.items ≡ directory_in header.now (S.bytes seal.now)) }
+    ensures refused { IfErr result (λ why. (block : ℕ) → why ≢ BadSegment block) }
+    ensures later { E.faults eye.old ≤ E.faults eye.new }
+    ensures disk { IfErr result (λ why. why ≡ Disk → Rose (E.faults eye.old) (E.faults eye.new)) }
+{
+    let size = BLOCK * directory_blocks(header.count, header.m) as usize;
+    let mut directory = vec![in alloc; 0; size]?;
+    eye.read(seal, BLOCK as u64, &mut directory)?;
+    Ok(directory)
+}
+
+// The first directory block that the format refuses, as a block of the segment.
+fn refused_block(directory: &[u8], count: u32, m: u16) -> Option<u64>
+    requires size { m ≤ 64 }
+    requires rows { length directory.now ≡ 4096 * directory_blocks count m }
+    ensures found { MatchOption result (IsDirectory m count directory.now) (IsFirstRefused m count directory.now) }
+    ensures rising { result ≡ None → AreRising (items_in m count directory.now) }
+{
+    let size = 4 + u64::from(m);
+    if let Some(row) = first_fall(directory, count, m) {
+        return Some(1 + u64::from(row) * size / BLOCK as u64);
+    }
+    let end = u64::from(count) * size;
+    if directory[end as usize..].iter().any(|&byte| byte != 0) {
+        return Some(directory_blocks(count, m));
+    }
+    None
+}
+
+// The first row whose Pid isn't above the one before.
+#[tactic(auto, using(crate::proofs::Rows::row_within))]
+fn first_fall(directory: &[u8], count: u32, m: u16) -> Option<u32>
+    requires size { m ≤ 64 }
+    requires rows { count * (4 + m) ≤ length directory.now }
+    ensures none { result ≡ None → (row : ℕ) → 1 ≤ row → row < count → pid_at m directory.now (row - 1) < pid_at m directory.now row }
+    ensures below { IfSome result (λ fall. (1 ≤ fall) × (fall < count)) }
+    ensures falls { IfSome result (λ fall. pid_at m directory.now fall ≤ pid_at m directory.now (fall - 1)) }
+    ensures first { IfSome result (λ fall. (row : ℕ) → 1 ≤ row → row < fall → pid_at m directory.now (row - 1) < pid_at m directory.now row) }
+{
+    for row in 1..count {
+        if pid_at(directory, m, row) <= pid_at(directory, m, row - 1) {
+            return Some(row);
+        }
+    }
+    None
+}
