@@ -1,3 +1,4 @@
 pub mod PlacesLemmas
 pub mod Orders
 pub mod Each
+pub mod Marked

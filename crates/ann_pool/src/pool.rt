@@ -1,5 +1,6 @@
-ghost use Rattle.std.specs.Prelude.{◌≡◌, ◌≤◌, ◌<◌, ◌⊎◌, ℕ, [], true, false, length, IfOk, IfSome, IsNone, ◌↔◌, Contains, find, insert, vec_len, vec_capacity};
+ghost use Rattle.std.specs.Prelude.{◌≡◌, ◌≤◌, ◌<◌, ◌⊎◌, ℕ, [], true, false, length, IfOk, IfSome, IsNone, ◌↔◌, Contains, find, insert, take, vec_len, vec_capacity};
 ghost use Rattle.ann_types.specs.Order.{has};
+ghost use Rattle.ann_pool.specs.Marks.{AreMarked, IsFirst};
 ghost use Rattle.ann_pool.specs.Pool.{item_before, IsInOrder, IsSameWhereThere, IsPlaceOf, offered, pooled, unvisited, marked, fresh, Shown};
 
 use crate::item::Item;
@@ -17,6 +18,8 @@ const ROOM: usize = 1000;
 #[derive(Drop)]
 pub struct Pool {
     limit: u16,
+    /// Every item before this place is marked, so that the next unmarked one is looked for from here on.
+    next: usize,
     items: Vec<Item>,
     known: Known,
 }
@@ -26,7 +29,7 @@ impl Model for Pool {
 
     ghost view = { λ p. record { limit = p.limit; items = p.items.items; known = p.known } };
 
-    ghost invariant = { λ p. (1 ≤ p.limit) × (p.limit ≤ 1000) × (vec_len p.items ≤ p.limit) × (1000 < vec_capacity p.items) × IsInOrder p.items.items };
+    ghost invariant = { λ p. (1 ≤ p.limit) × (p.limit ≤ 1000) × (vec_len p.items ≤ p.limit) × (1000 < vec_capacity p.items) × IsInOrder p.items.items × AreMarked p.next p.items.items };
 }
 
 fn is_before(x: &Item, y: &Item) -> bool
@@ -63,7 +66,8 @@ fn is_there(items: &[Item], place: usize, item: &Item) -> bool
     place < items.len() && items[place].number == item.number
 }
 
-fn offer_to(items: &mut Vec<Item>, limit: usize, item: Item)
+/// Offers an item, and gives a place before which nothing changed.
+fn offer_to(items: &mut Vec<Item>, limit: usize, item: Item) -> usize
     requires order { IsInOrder items.old.items }
     requires same { IsSameWhereThere item items.old.items }
     requires some { 1 ≤ limit }
@@ -72,35 +76,49 @@ fn offer_to(items: &mut Vec<Item>, limit: usize, item: Item)
     ensures items { items.new.items ≡ pooled limit item items.old.items }
     ensures few { vec_len items.new ≤ limit }
     ensures room { vec_capacity items.old ≤ vec_capacity items.new }
+    ensures before { (n : ℕ) → n ≤ result → take n items.new.items ≡ take n items.old.items }
 {
     if is_past(items, limit, &item) {
-        return;
+        return limit;
     }
     let place = place_of(items, &item);
     if is_there(items, place, &item) {
-        return;
+        return limit;
     }
     let _ = items.insert(place, item);
     items.truncate(limit);
+    place
 }
 
-/// Marks the least unvisited item, and gives it as it was.
-fn mark_first(items: &mut [Item]) -> Option<Item>
+/// The place of the least unvisited item, or the number of items, where those before a place are visited.
+fn first_from(items: &[Item], from: usize) -> usize
+    requires { AreMarked from items.now }
+    ensures { IsFirst items.now result }
+{
+    let mut place = from;
+    while place < items.len() && items[place].visited {
+        place += 1;
+    }
+    place
+}
+
+/// Marks the item at the first unvisited place, if there is one, and gives it as it was.
+fn mark_at(items: &mut [Item], place: usize) -> Option<Item>
+    requires { IsFirst items.old place }
     ensures found { result ≡ find unvisited items.old }
     ensures inside { IfSome result (λ x. Contains items.old x) }
     ensures marked { items.new ≡ marked items.old }
+    ensures still { AreMarked place items.new }
 {
-    for i in 0..items.len() {
-        let item = items[i];
-        if !item.visited {
-            items[i] = Item {
-                visited: true,
-                ..item
-            };
-            return Some(item);
-        }
+    if place >= items.len() {
+        return None;
     }
-    None
+    let item = items[place];
+    items[place] = Item {
+        visited: true,
+        ..item
+    };
+    Some(item)
 }
 
 impl Pool {
@@ -110,6 +128,7 @@ impl Pool {
     {
         Ok(Pool {
             limit: 1000,
+            next: 0,
             items: Vec::with_capacity(alloc, ROOM + 1)?,
             known: Known::new(alloc)?,
         })
@@ -121,6 +140,7 @@ impl Pool {
         ensures { self.new ≡ record { limit = limit; items = []; known = [] } }
     {
         self.limit = limit;
+        self.next = 0;
         self.items.clear();
         self.known.clear();
     }
@@ -143,7 +163,8 @@ impl Pool {
             visited: false,
         };
         self.known.note(number);
-        offer_to(&mut self.items, usize::from(self.limit), item);
+        let place = offer_to(&mut self.items, usize::from(self.limit), item);
+        self.next = self.next.min(place);
     }
 
     /// Whether this number is known to have been offered since the pool was cleared; a number may be forgotten.
@@ -163,7 +184,8 @@ impl Pool {
         ensures marked { self.new.items ≡ marked self.old.items }
         ensures known { self.new.known ≡ self.old.known }
     {
-        mark_first(&mut self.items)
+        self.next = first_from(&self.items, self.next);
+        mark_at(&mut self.items, self.next)
     }
 
     /// The items, in order of distance and number.
