@@ -1,5 +1,5 @@
--- What the grammar leaves of a script: plain commands, and no more than lines.
-use Rattle.std.proofs.Common.{◌≡◌, ℕ, ◌+◌, ◌-◌, ◌<◌, ◌≤◌, ◌^◌, Bool, true, false, cond, List, [], ◌∷◌, ◌++◌, ◌&&◌, refl, sym, ap, subst, arith, length, ◌⊎◌, inl, inr}
+-- What the grammar leaves of a script: brief commands, and no more than lines.
+use Rattle.std.proofs.Common.{◌≡◌, ℕ, ◌+◌, ◌-◌, ◌<◌, ◌≤◌, ◌^◌, Bool, true, false, cond, suc, List, [], ◌∷◌, ◌++◌, ◌&&◌, refl, sym, ap, subst, ◌∙◌, arith, length, ◌⊎◌, inl, inr}
 use Rattle.std.specs.Prelude.{Option, None, Some, Result, Ok, Err, take, nat_lt, nat_le, codes}
 use Rattle.std.specs.List.{AllByRecursion}
 use Rattle.std.specs.Str.{bytes_eq}
@@ -8,13 +8,12 @@ use Rattle.std.proofs.lemmas.Bool.{leb-true}
 use Rattle.std.proofs.lemmas.List.Splits.{length-slice_split}
 use Rattle.std.proofs.lemmas.List.Sums.{count_by-le-length}
 use Rattle.ann_types.specs.declared.change.Change.{Change}
-use Rattle.ann_types.specs.declared.change.Change.TheVariants.{Insert}
 use Rattle.ann_script.specs.Words.{number_of, words}
 use Rattle.ann_script.specs.Order.{Order, Apply, Find}
 use Rattle.ann_script.specs.Grammar as grammar
 use Rattle.ann_script.specs.Grammar.{Line, Silent, Says, Bad}
 use Rattle.ann_script.specs.Script.{Client, added, said, line_said, Whole, Long, lines_said, lines, is_line_feed, text_said, script_of, limit}
-use Rattle.ann_program.specs.Servable.{IsPlain, IsServable, lines_limit}
+use Rattle.ann_program.specs.Servable.{IsBrief, IsServable, lines_limit}
 
 none_some : {A : Type 0} (x : A) → None ≡ Some x → ⊥
 none_some x e = cc
@@ -32,75 +31,100 @@ chosen : {A : Type 0} (b : Bool) (x y : Option A) (z : A) → cond b x y ≡ Som
 chosen true x y z e = inl e
 chosen false x y z e = inr e
 
--- ---- Commands are plain
+by_limit : (b : Bool) (x y : List Change) → cond b (Some x) None ≡ Some y → ((b ≡ true) × (x ≡ y)) ⊎ ⊥
+by_limit true x y e = inl (refl, some_is x y e)
+by_limit false x y e = absurd (none_some y e)
 
-insert_is : (operands : List (List ℕ)) (change : Change) → grammar.insert operands ≡ Some change → (tag : ℕ) × (vector : List ℕ) × (change ≡ Insert tag vector)
-insert_is [] change e = absurd (none_some change e)
-insert_is (tag ∷ rest) change e =
-    let t = bound (number_of (2 ^ 64 - 1) tag) _ change e in
-    let v = bound (grammar.vector rest) _ change t.2 in
-    (t.0, v.0, sym (some_is (Insert t.0 v.0) change v.2))
+-- ---- Commands are brief
 
-apply_plain : (operands : List (List ℕ)) (order : Order) → grammar.◌>>=◌ (grammar.insert operands) (λ change. Some (Apply (change ∷ []) false)) ≡ Some order → IsPlain order
-apply_plain operands order e =
-    let c = bound (grammar.insert operands) _ order e in
-    let i = insert_is operands c.0 c.1 in
-    subst IsPlain (some_is (Apply (c.0 ∷ []) false) order c.2) (i.0, i.1, ap (λ (x : Change). x ∷ []) i.2, refl)
+single_brief : (operands : List (List ℕ)) (changes : List Change) → grammar.single operands ≡ Some changes → length changes ≡ 1
+single_brief operands changes e =
+    let c = bound (grammar.change operands) _ changes e in
+    ap length (sym (some_is (c.0 ∷ []) changes c.2))
 
-is_find : (o : Option Order) (order : Order) → o ≡ Some order → ((found : Order) → o ≡ Some found → IsPlain found) → IsPlain order
-is_find o order e each = each order e
+apply_single : (operands : List (List ℕ)) (order : Order) → grammar.◌>>=◌ (grammar.single operands) (λ changes. Some (Apply changes false)) ≡ Some order → IsBrief order
+apply_single operands order e =
+    let c = bound (grammar.single operands) _ order e in
+    let one = single_brief operands c.0 c.1 in
+    subst IsBrief (some_is (Apply c.0 false) order c.2) (omega (arith, one), omega (arith, one))
 
-search_plain : (operands : List (List ℕ)) (order : Order) → grammar.search_of operands ≡ Some order → IsPlain order
-search_plain [] order e = absurd (none_some order e)
-search_plain (k ∷ []) order e = absurd (none_some order e)
-search_plain (k ∷ l ∷ rest) order e =
+parts_some : (operands : List (List ℕ)) → 0 < length (grammar.parts operands)
+parts_some operands = omega (arith, length-slice_split grammar.is_separator operands)
+
+changes_long : (parts : List (List (List ℕ))) (changes : List Change) → grammar.changes parts ≡ Some changes → length changes ≡ length parts
+changes_long [] changes e = ap length (sym (some_is [] changes e))
+changes_long (part ∷ parts) changes e =
+    let c = bound (grammar.change part) _ changes e in
+    let cs = bound (grammar.changes parts) _ changes c.2 in
+    let rest = changes_long parts cs.0 cs.1 in
+    ap length (sym (some_is (c.0 ∷ cs.0) changes cs.2)) ∙ ap suc rest
+
+batch_brief : (operands : List (List ℕ)) (changes : List Change) → grammar.batch operands ≡ Some changes → IsBrief (Apply changes true)
+batch_brief operands changes e =
+    let cs = bound (grammar.changes (grammar.parts operands)) _ changes e in
+    let long = changes_long (grammar.parts operands) cs.0 cs.1 in
+    let some = parts_some operands in
+    elim (by_limit (nat_le (length cs.0) 64) cs.0 changes cs.2) [
+      | inl is ↦ let same = ap length is.1 in let few = leb-true (length cs.0) 64 is.0 in (omega (arith, long, some, same), omega (arith, few, same))
+      | inr none ↦ absurd none
+    ]
+
+apply_batch : (operands : List (List ℕ)) (order : Order) → grammar.◌>>=◌ (grammar.batch operands) (λ changes. Some (Apply changes true)) ≡ Some order → IsBrief order
+apply_batch operands order e =
+    let c = bound (grammar.batch operands) _ order e in
+    subst IsBrief (some_is (Apply c.0 true) order c.2) (batch_brief operands c.0 c.1)
+
+search_brief : (operands : List (List ℕ)) (order : Order) → grammar.search_of operands ≡ Some order → IsBrief order
+search_brief [] order e = absurd (none_some order e)
+search_brief (k ∷ []) order e = absurd (none_some order e)
+search_brief (k ∷ l ∷ rest) order e =
     let wanted = bound (number_of 1000 k) _ order e in
     let width = bound (number_of 1000 l) _ order wanted.2 in
     let v = bound (grammar.vector rest) _ order width.2 in
     elim (chosen (nat_le 1 wanted.0 && nat_le wanted.0 width.0) (Some (Find wanted.0 width.0 v.0)) None order v.2) [
-      | inl found ↦ subst IsPlain (some_is (Find wanted.0 width.0 v.0) order found) tt
+      | inl found ↦ subst IsBrief (some_is (Find wanted.0 width.0 v.0) order found) tt
       | inr none ↦ absurd (none_some order none)
     ]
 
-command_plain : (rest : List (List ℕ)) (order : Order) → grammar.command rest ≡ Some order → IsPlain order
-command_plain [] order e = absurd (none_some order e)
-command_plain (verb ∷ operands) order e =
-    elim (chosen (bytes_eq verb (codes "insert")) _ _ order e) [
-      | inl insert ↦ apply_plain operands order insert
-      | inr other ↦ elim (chosen (bytes_eq verb (codes "search")) (grammar.search_of operands) None order other) [
-        | inl search ↦ search_plain operands order search
-        | inr none ↦ absurd (none_some order none)
+command_brief : (rest : List (List ℕ)) (order : Order) → grammar.command rest ≡ Some order → IsBrief order
+command_brief [] order e = absurd (none_some order e)
+command_brief (verb ∷ operands) order e =
+    elim (chosen (bytes_eq verb (codes "search")) _ _ order e) [
+      | inl search ↦ search_brief operands order search
+      | inr other ↦ elim (chosen (bytes_eq verb (codes "batch")) _ _ order other) [
+        | inl batch ↦ apply_batch operands order batch
+        | inr single ↦ apply_single (verb ∷ operands) order single
       ]
     ]
 
 -- ---- A command more
 
-all_plain_last : (orders : List Order) (order : Order) → AllByRecursion IsPlain orders → IsPlain order → AllByRecursion IsPlain (orders ++ order ∷ [])
-all_plain_last [] order plain one = (one, tt)
-all_plain_last (first ∷ orders) order plain one = (plain.0, all_plain_last orders order plain.1 one)
+all_brief_last : (orders : List Order) (order : Order) → AllByRecursion IsBrief orders → IsBrief order → AllByRecursion IsBrief (orders ++ order ∷ [])
+all_brief_last [] order brief one = (one, tt)
+all_brief_last (first ∷ orders) order brief one = (brief.0, all_brief_last orders order brief.1 one)
 
 length_last : (orders : List Order) (order : Order) → length (orders ++ order ∷ []) ≡ length orders + 1
 length_last [] order = refl
 length_last (first ∷ orders) order = omega (arith, length_last orders order)
 
 -- a client with one more command
-client_more : (most : ℕ) (client : Client) (order : Order) → IsPlain order → IsServable most client → IsServable (most + 1) (record client { orders = client.orders ++ order ∷ [] })
+client_more : (most : ℕ) (client : Client) (order : Order) → IsBrief order → IsServable most client → IsServable (most + 1) (record client { orders = client.orders ++ order ∷ [] })
 client_more most client order one s = record {
-  plain = all_plain_last client.orders order s.plain one;
+  brief = all_brief_last client.orders order s.brief one;
   short = omega (arith, length_last client.orders order, s.short);
 }
 
-client_new : (most : ℕ) (name : List ℕ) (order : Order) → IsPlain order → IsServable (most + 1) (record { name = name; orders = order ∷ [] })
-client_new most name order one = record { plain = (one, tt); short = omega arith }
+client_new : (most : ℕ) (name : List ℕ) (order : Order) → IsBrief order → IsServable (most + 1) (record { name = name; orders = order ∷ [] })
+client_new most name order one = record { brief = (one, tt); short = omega arith }
 
 client_weaker : (most : ℕ) (client : Client) → IsServable most client → IsServable (most + 1) client
-client_weaker most client s = record { plain = s.plain; short = omega (arith, s.short) }
+client_weaker most client s = record { brief = s.brief; short = omega (arith, s.short) }
 
 all_weaker : (most : ℕ) (clients : List Client) → AllByRecursion (IsServable most) clients → AllByRecursion (IsServable (most + 1)) clients
 all_weaker most [] s = tt
 all_weaker most (client ∷ clients) s = (client_weaker most client s.0, all_weaker most clients s.1)
 
-added_servable : (most room : ℕ) (clients : List Client) (name : List ℕ) (order : Order) (more : List Client) → added room clients name order ≡ Some more → IsPlain order → AllByRecursion (IsServable most) clients → AllByRecursion (IsServable (most + 1)) more
+added_servable : (most room : ℕ) (clients : List Client) (name : List ℕ) (order : Order) (more : List Client) → added room clients name order ≡ Some more → IsBrief order → AllByRecursion (IsServable most) clients → AllByRecursion (IsServable (most + 1)) more
 added_servable most room [] name order more e one s =
     elim (chosen (nat_lt 0 room) (Some (record { name = name; orders = order ∷ [] } ∷ [])) None more e) [
       | inl is ↦ subst (AllByRecursion (IsServable (most + 1))) (some_is (record { name = name; orders = order ∷ [] } ∷ []) more is) (client_new most name order one, tt)
@@ -116,43 +140,43 @@ added_servable most room (client ∷ others) name order more e one s =
 
 -- ---- A line more
 
-line_servable : (most room : ℕ) (clients : List Client) (line : Line) (more : List Client) → ((name : List ℕ) (order : Order) → line ≡ Says name order → IsPlain order) → line_said room clients line ≡ Some more → AllByRecursion (IsServable most) clients → AllByRecursion (IsServable (most + 1)) more
-line_servable most room clients Silent more plain e s = subst (AllByRecursion (IsServable (most + 1))) (some_is clients more e) (all_weaker most clients s)
-line_servable most room clients (Says name order) more plain e s =
-    added_servable most room clients name order more e (plain name order refl) s
-line_servable most room clients Bad more plain e s = absurd (none_some more e)
+line_servable : (most room : ℕ) (clients : List Client) (line : Line) (more : List Client) → ((name : List ℕ) (order : Order) → line ≡ Says name order → IsBrief order) → line_said room clients line ≡ Some more → AllByRecursion (IsServable most) clients → AllByRecursion (IsServable (most + 1)) more
+line_servable most room clients Silent more brief e s = subst (AllByRecursion (IsServable (most + 1))) (some_is clients more e) (all_weaker most clients s)
+line_servable most room clients (Says name order) more brief e s =
+    added_servable most room clients name order more e (brief name order refl) s
+line_servable most room clients Bad more brief e s = absurd (none_some more e)
 
 line_if : (b : Bool) (x y : Line) (P : Line → Type 0) → P x → P y → P (cond b x y)
 line_if true x y P p q = p
 line_if false x y P p q = q
 
-abbrev pub IsPlainLine : Line → Type 0
-IsPlainLine line = (name : List ℕ) (order : Order) → line ≡ Says name order → IsPlain order
+abbrev pub IsBriefLine : Line → Type 0
+IsBriefLine line = (name : List ℕ) (order : Order) → line ≡ Says name order → IsBrief order
 
-silent_plain : IsPlainLine Silent
-silent_plain name order e = absurd cc
+silent_brief : IsBriefLine Silent
+silent_brief name order e = absurd cc
 
-bad_plain : IsPlainLine Bad
-bad_plain name order e = absurd cc
+bad_brief : IsBriefLine Bad
+bad_brief name order e = absurd cc
 
 says_is : (name name' : List ℕ) (order order' : Order) → Says name order ≡ Says name' order' → order ≡ order'
 says_is name name' order order' e = cc
 
-command_line : (word : List ℕ) (o : Option Order) → ((order : Order) → o ≡ Some order → IsPlain order) → IsPlainLine (elim o [ None ↦ Bad | Some order ↦ Says word order ])
-command_line word None plain = bad_plain
-command_line word (Some order) plain = λ name order' e. subst IsPlain (says_is word name order order' e) (plain order refl)
+command_line : (word : List ℕ) (o : Option Order) → ((order : Order) → o ≡ Some order → IsBrief order) → IsBriefLine (elim o [ None ↦ Bad | Some order ↦ Says word order ])
+command_line word None brief = bad_brief
+command_line word (Some order) brief = λ name order' e. subst IsBrief (says_is word name order order' e) (brief order refl)
 
-words_plain : (words : List (List ℕ)) → IsPlainLine (grammar.line_of_words words)
-words_plain [] = silent_plain
-words_plain (word ∷ rest) =
-    line_if (grammar.is_comment word) Silent _ IsPlainLine silent_plain
-    (line_if (grammar.is_name word) _ Bad IsPlainLine (command_line word (grammar.command rest) (command_plain rest)) bad_plain)
+words_brief : (words : List (List ℕ)) → IsBriefLine (grammar.line_of_words words)
+words_brief [] = silent_brief
+words_brief (word ∷ rest) =
+    line_if (grammar.is_comment word) Silent _ IsBriefLine silent_brief
+    (line_if (grammar.is_name word) _ Bad IsBriefLine (command_line word (grammar.command rest) (command_brief rest)) bad_brief)
 
-line_plain : (line : List ℕ) → IsPlainLine (grammar.line_of line)
-line_plain line = words_plain (words (strip_carriage_return line))
+line_brief : (line : List ℕ) → IsBriefLine (grammar.line_of line)
+line_brief line = words_brief (words (strip_carriage_return line))
 
 said_servable : (most room : ℕ) (clients : List Client) (line : List ℕ) (more : List Client) → said room clients line ≡ Some more → AllByRecursion (IsServable most) clients → AllByRecursion (IsServable (most + 1)) more
-said_servable most room clients line more e s = line_servable most room clients (grammar.line_of line) more (line_plain line) e s
+said_servable most room clients line more e s = line_servable most room clients (grammar.line_of line) more (line_brief line) e s
 
 -- ---- A script
 
@@ -185,7 +209,7 @@ long_text_faulty room (line ∷ others) script some e = long_faulty room [] 1 li
 
 all_within : (most more : ℕ) (clients : List Client) → most ≤ more → AllByRecursion (IsServable most) clients → AllByRecursion (IsServable more) clients
 all_within most more [] within s = tt
-all_within most more (client ∷ clients) within s = (record { plain = s.0.plain; short = omega (arith, s.0.short) }, all_within most more clients within s.1)
+all_within most more (client ∷ clients) within s = (record { brief = s.0.brief; short = omega (arith, s.0.short) }, all_within most more clients within s.1)
 
 by_test : (b : Bool) (x y z : Result (List Client) ℕ) → cond b x y ≡ z → ((b ≡ true) × (x ≡ z)) ⊎ (y ≡ z)
 by_test true x y z e = inl (refl, e)
@@ -197,7 +221,7 @@ lines_few input = omega (arith, length-slice_split is_line_feed input, count_by-
 lines_some : (input : List ℕ) → 0 < length (lines input)
 lines_some input = omega (arith, length-slice_split is_line_feed input)
 
--- the clients of a script have plain commands, fewer than the limit
+-- the clients of a script have brief commands, fewer than the limit
 pub script_servable : (room : ℕ) (input : List ℕ) (script : List Client) → script_of room input ≡ Ok script → AllByRecursion (IsServable (lines_limit - 1)) script
 script_servable room input script e =
     elim (by_test (nat_le (length input) limit) (text_said room Whole input) (text_said room Long (take limit input)) (Ok script) e) [

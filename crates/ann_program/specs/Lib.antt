@@ -1,6 +1,6 @@
 pub mod Words
 pub mod Once
-pub mod Session
 pub mod Servable
+pub mod Standing
 pub mod Status
 pub mod Owed

@@ -2,15 +2,11 @@
 use Rattle.std.specs.Prelude.{ℕ, ◌+◌, Bool, List, [], ◌∷◌, ◌++◌, ◌==◌, Option, None, Some, map, length, replicate, if◌then◌else◌}
 use Rattle.ann_types.specs.Codes.{Book}
 use Rattle.ann_types.specs.Index.{Index}
-use Rattle.ann_types.specs.Graph.{Graph, empty_graph}
-use Rattle.ann_types.specs.Put.{put}
-use Rattle.ann_types.specs.Lists.{BasedList, empty_list, with_entries, length_of, makes_point, live_of}
-use Rattle.ann_types.specs.Fold.{State, start}
+use Rattle.ann_types.specs.Lists.{BasedList, empty_list, with_entries, length_of, live_of}
+use Rattle.ann_types.specs.Fold.{fold_of}
 use Rattle.ann_types.specs.Answer.{hits}
 use Rattle.ann_types.specs.Judge.{Refusal, Dimension, Full, Present, Absent, judge_all, entry_of}
 use Rattle.ann_types.specs.declared.params.Params.{Params}
-use Rattle.ann_types.specs.declared.entry.Entry.{Entry}
-use Rattle.ann_types.specs.declared.entry.Entry.TheVariants as entry
 use Rattle.ann_types.specs.declared.change.Change.{Change}
 use Rattle.ann_types.specs.declared.change.Change.TheVariants as change
 use Rattle.ann_script.specs.Order.{Order, Apply, Find}
@@ -28,28 +24,9 @@ use Rattle.ann_script.specs.declared.reply.Reply.TheVariants as reply
 unfoldable pub zeros : ℕ → Book
 zeros d = replicate 256 (replicate d 0) ∷ []
 
--- the index of `once`
+-- the index of `once`, whose long-term graph stays empty
 abbrev pub once_index : Params → Index
 once_index params = record { params = params; book = zeros params.d }
-
--- ---- The state of a list of entries
-
--- a graph with the point of an entry, under this Pid
-abbrev pub with_point : Params → Graph → ℕ → Entry → Graph
-with_point params graph n (entry.Insert by tag vector) = put params graph n tag vector
-with_point params graph n (entry.Delete by tag) = graph
-with_point params graph n (entry.Begin by) = graph
-with_point params graph n (entry.End by segment) = graph
-with_point params graph n (entry.Replace by tag vector) = put params graph n tag vector
-
--- a graph with the points of entries, each under the next Pid
-abbrev pub graph_from : Params → Graph → ℕ → List Entry → Graph
-graph_from params graph n [] = graph
-graph_from params graph n (e ∷ es) = graph_from params (with_point params graph n e) (n + (if makes_point e then 1 else 0)) es
-
--- `once` keeps every point in one graph, which never freezes
-abbrev pub once_state : Params → BasedList → State
-once_state params h = record (start empty_graph) { rw = graph_from params empty_graph 0 h.entries }
 
 -- ---- The reply to a command, after a list of entries
 
@@ -82,7 +59,7 @@ update_reply changes batch at (Some r) = reply.Update (word_of r.0 r.1 at) batch
 
 abbrev pub search_reply : Index → BasedList → ℕ → ℕ → List ℕ → Reply
 search_reply index h k l vector =
-    if length vector == index.params.d then reply.Found (length_of h) (hits index (once_state index.params h) k l vector)
+    if length vector == index.params.d then reply.Found (length_of h) (hits index (fold_of index h) k l vector)
     else reply.Search (search_word.Dimension (length vector) index.params.d)
 
 abbrev pub reply_to : Index → BasedList → Order → Reply
@@ -91,9 +68,13 @@ reply_to index h (Find k l vector) = search_reply index h k l vector
 
 -- ---- The list after a command
 
+-- the list with the entries of changes
+abbrev pub behind : BasedList → List Change → BasedList
+behind h changes = with_entries h (map (entry_of 0) changes)
+
 -- an accepted update extends the list by its entries, and a refused one leaves it
 abbrev pub updated : BasedList → List Change → Option (ℕ × Refusal) → BasedList
-updated h changes None = with_entries h (map (entry_of 0) changes)
+updated h changes None = behind h changes
 updated h changes (Some r) = h
 
 abbrev pub list_after : Index → BasedList → Order → BasedList

@@ -1,4 +1,5 @@
 pub mod Appended
+pub mod Batches
 pub mod Behind
 pub mod Clients
 pub mod Digits

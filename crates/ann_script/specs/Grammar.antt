@@ -1,11 +1,11 @@
 -- The grammar of a line of a script.
-use Rattle.std.specs.Prelude.{ℕ, ◌-◌, ◌^◌, ◌==◌, ◌||◌, ◌&&◌, nat_le, Bool, false, List, [], ◌∷◌, length, Option, None, Some, codes, if◌then◌else◌}
-use Rattle.std.specs.List.{list_all}
+use Rattle.std.specs.Prelude.{ℕ, ◌-◌, ◌^◌, ◌==◌, ◌||◌, ◌&&◌, nat_le, Bool, true, false, List, [], ◌∷◌, length, Option, None, Some, codes, if◌then◌else◌}
+use Rattle.std.specs.List.{list_all, slice_split}
 use Rattle.std.specs.Char.{is_ascii_alphanumeric}
 use Rattle.std.specs.Str.{bytes_eq}
 use Rattle.std.specs.Str.Lines.{strip_carriage_return}
 use Rattle.ann_types.specs.declared.change.Change.{Change}
-use Rattle.ann_types.specs.declared.change.Change.TheVariants.{Insert}
+use Rattle.ann_types.specs.declared.change.Change.TheVariants.{Insert, Delete, Replace}
 use Rattle.ann_script.specs.Order.{Order, Apply, Find}
 use Rattle.ann_script.specs.Words.{words, number_of}
 
@@ -24,10 +24,49 @@ components (word ∷ rest) = number_of 255 word >>= λ c. components rest >>= λ
 abbrev pub vector : List (List ℕ) → Option (List ℕ)
 vector operands = components operands >>= λ cs. if nat_le 1 (length cs) && nat_le (length cs) 1024 then Some cs else None
 
--- `insert TAG C C ..`
-abbrev pub insert : List (List ℕ) → Option Change
-insert [] = None
-insert (tag ∷ rest) = number_of (2 ^ 64 - 1) tag >>= λ t. vector rest >>= λ v. Some (Insert t v)
+-- `TAG`
+abbrev pub tag : List ℕ → Option ℕ
+tag word = number_of (2 ^ 64 - 1) word
+
+-- `TAG C C ..`
+abbrev pub point : List (List ℕ) → Option (ℕ × List ℕ)
+point [] = None
+point (word ∷ rest) = tag word >>= λ t. vector rest >>= λ v. Some (t, v)
+
+-- `TAG` alone
+abbrev pub lone_tag : List (List ℕ) → Option ℕ
+lone_tag [] = None
+lone_tag (word ∷ []) = tag word
+lone_tag (word ∷ next ∷ rest) = None
+
+-- `insert TAG C C ..`, `delete TAG` or `replace TAG C C ..`
+abbrev pub change : List (List ℕ) → Option Change
+change [] = None
+change (verb ∷ operands) =
+    if bytes_eq verb (codes "insert") then (point operands >>= λ p. Some (Insert p.0 p.1))
+    else (if bytes_eq verb (codes "delete") then (lone_tag operands >>= λ t. Some (Delete t))
+    else (if bytes_eq verb (codes "replace") then (point operands >>= λ p. Some (Replace p.0 p.1)) else None))
+
+-- one change alone
+abbrev pub single : List (List ℕ) → Option (List Change)
+single operands = change operands >>= λ c. Some (c ∷ [])
+
+-- each part is a change
+abbrev pub changes : List (List (List ℕ)) → Option (List Change)
+changes [] = Some []
+changes (part ∷ parts) = change part >>= λ c. changes parts >>= λ cs. Some (c ∷ cs)
+
+-- `;`, a word of its own
+abbrev pub is_separator : List ℕ → Bool
+is_separator word = bytes_eq word (codes ";")
+
+-- what stands between the words `;`
+abbrev pub parts : List (List ℕ) → List (List (List ℕ))
+parts operands = slice_split is_separator operands
+
+-- `CHANGE ; CHANGE ; ..`, 1 to 64 changes
+abbrev pub batch : List (List ℕ) → Option (List Change)
+batch operands = changes (parts operands) >>= λ cs. if nat_le (length cs) 64 then Some cs else None
 
 -- `search K L C C ..`, with 1 <= K <= L <= 1000
 abbrev pub search_of : List (List ℕ) → Option Order
@@ -39,8 +78,9 @@ search_of (k ∷ l ∷ rest) = number_of 1000 k >>= λ wanted. number_of 1000 l 
 abbrev pub command : List (List ℕ) → Option Order
 command [] = None
 command (verb ∷ operands) =
-    if bytes_eq verb (codes "insert") then (insert operands >>= λ change. Some (Apply (change ∷ []) false))
-    else (if bytes_eq verb (codes "search") then search_of operands else None)
+    if bytes_eq verb (codes "search") then search_of operands
+    else (if bytes_eq verb (codes "batch") then (batch operands >>= λ cs. Some (Apply cs true))
+    else (single (verb ∷ operands) >>= λ cs. Some (Apply cs false)))
 
 abbrev pub is_name_byte : ℕ → Bool
 is_name_byte byte = is_ascii_alphanumeric byte || (byte == 95) || (byte == 45)

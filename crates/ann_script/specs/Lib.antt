@@ -2,6 +2,7 @@ pub mod Drafts
 pub mod Faults
 pub mod Grammar
 pub mod Memory
+pub mod Operands
 pub mod Order
 pub mod Outputs
 pub mod Parsed

@@ -15,6 +15,7 @@ mod hit_list;
 mod memory_sink;
 mod memory_source;
 mod numbers;
+mod operands;
 mod parse;
 mod parse_refused;
 mod reader;

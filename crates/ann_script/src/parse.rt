@@ -2,20 +2,25 @@ ghost use Rattle.std.specs.Prelude.{◌≡◌, true};
 ghost use Rattle.std.specs.List.{list_all};
 ghost use Rattle.ann_script.specs.Words.{words};
 ghost use Rattle.ann_script.specs.Order.{order_of, Find};
-ghost use Rattle.ann_script.specs.Grammar.{components, vector, insert, search_of, command, is_name, is_name_byte, is_comment, line_of};
+ghost use Rattle.ann_script.specs.Grammar.{components, vector, point, lone_tag, change, single, batch, search_of, command, is_name, is_name_byte, is_comment, line_of};
+ghost use Rattle.ann_script.specs.Operands.{given};
 ghost use Rattle.ann_script.specs.Parsed.{Parses};
 ghost use Rattle.ann_script.specs.Sayings.{SaysLine};
 
 use crate::change_list::ChangeList;
 use crate::command::Command;
 use crate::numbers::number;
+use crate::operands::{Operands, behind_separator};
 use crate::parse_refused::ParseRefused;
 use crate::words::{Words, without_return};
-use ann_types::{Ask, Change, Vector};
+use ann_types::{Ask, Change, Tag, Vector};
 use std::alloc::Global;
 
 /// The most components that a vector of a script has.
 const MOST_COMPONENTS: usize = 1024;
+
+/// The most changes that a batch has.
+const MOST_CHANGES: u32 = 64;
 
 /// What a line says.
 pub enum Saying<'a> {
@@ -27,8 +32,8 @@ pub enum Saying<'a> {
 
 /// The components that the words are.
 #[tactic(auto, using(crate::proofs::Behind::behind_steps))]
-fn read_components(alloc: Global, operands: Words<'_>) -> Result<Vec<u8>, ParseRefused>
-    ensures { Parses (λ v. v.items) result (components (words operands.entry.rest.now)) }
+fn read_components(alloc: Global, operands: Operands<'_>) -> Result<Vec<u8>, ParseRefused>
+    ensures { Parses (λ v. v.items) result (components (given operands.entry)) }
 {
     let mut bytes = Vec::with_capacity(alloc, MOST_COMPONENTS)?;
     for word in operands {
@@ -41,8 +46,8 @@ fn read_components(alloc: Global, operands: Words<'_>) -> Result<Vec<u8>, ParseR
 }
 
 /// The vector that the words are: 1 to 1024 components.
-fn read_vector(alloc: Global, operands: Words<'_>) -> Result<Vector, ParseRefused>
-    ensures { Parses (λ v. v) result (vector (words operands.entry.rest.now)) }
+fn read_vector(alloc: Global, operands: Operands<'_>) -> Result<Vector, ParseRefused>
+    ensures { Parses (λ v. v) result (vector (given operands.entry)) }
 {
     let bytes = read_components(alloc, operands)?;
     if bytes.is_empty() || bytes.len() > MOST_COMPONENTS {
@@ -51,23 +56,74 @@ fn read_vector(alloc: Global, operands: Words<'_>) -> Result<Vector, ParseRefuse
     Ok(Vector::copy(alloc, &bytes)?)
 }
 
-/// The insert of which these are the tag and the components.
-fn read_insert(alloc: Global, mut operands: Words<'_>) -> Result<Change, ParseRefused>
-    ensures { Parses (λ c. c) result (insert (words operands.entry.rest.now)) }
+/// The tag and the vector of a point.
+fn read_point(alloc: Global, mut operands: Operands<'_>) -> Result<(Tag, Vector), ParseRefused>
+    ensures { Parses (λ p. p) result (point (given operands.entry)) }
 {
     let Some(word) = operands.next() else {
         return Err(ParseRefused::Fault);
     };
-    let Some(tag) = number(word, u64::MAX) else {
+    let Some(tag) = number(word, Tag::MAX) else {
         return Err(ParseRefused::Fault);
     };
     let vector = read_vector(alloc, operands)?;
-    Ok(Change::Insert { tag, vector })
+    Ok((tag, vector))
+}
+
+/// The tag that is the one word.
+fn read_lone_tag(mut operands: Operands<'_>) -> Result<Tag, ParseRefused>
+    ensures { Parses (λ t. t) result (lone_tag (given operands.entry)) }
+{
+    let Some(word) = operands.next() else {
+        return Err(ParseRefused::Fault);
+    };
+    match operands.next() {
+        None => number(word, Tag::MAX).ok_or(ParseRefused::Fault),
+        Some(_) => Err(ParseRefused::Fault),
+    }
+}
+
+/// The change of which these are the verb and the operands.
+fn read_change(alloc: Global, mut text: Operands<'_>) -> Result<Change, ParseRefused>
+    ensures { Parses (λ c. c) result (change (given text.entry)) }
+{
+    let Some(verb) = text.next() else {
+        return Err(ParseRefused::Fault);
+    };
+    if verb == b"insert".as_slice() {
+        let (tag, vector) = read_point(alloc, text)?;
+        return Ok(Change::Insert { tag, vector });
+    }
+    if verb == b"delete".as_slice() {
+        let tag = read_lone_tag(text)?;
+        return Ok(Change::Delete { tag });
+    }
+    if verb == b"replace".as_slice() {
+        let (tag, vector) = read_point(alloc, text)?;
+        return Ok(Change::Replace { tag, vector });
+    }
+    Err(ParseRefused::Fault)
+}
+
+/// The changes of a batch, of which this is the text behind the verb.
+fn read_batch(alloc: Global, text: &[u8]) -> Result<ChangeList, ParseRefused>
+    ensures { Parses (λ l. l) result (batch (words text.now)) }
+{
+    let mut changes = ChangeList::new(alloc);
+    let mut rest = text;
+    for _ in 0..MOST_CHANGES {
+        changes.push(read_change(alloc, Operands::part(rest))?)?;
+        match behind_separator(rest) {
+            Some(behind) => rest = behind,
+            None => return Ok(changes),
+        }
+    }
+    Err(ParseRefused::Fault)
 }
 
 /// The search of which these are `K`, `L` and the components.
-fn read_search(alloc: Global, mut operands: Words<'_>) -> Result<Ask, ParseRefused>
-    ensures { Parses (λ ask. Find ask.k ask.l ask.vector) result (search_of (words operands.entry.rest.now)) }
+fn read_search(alloc: Global, mut operands: Operands<'_>) -> Result<Ask, ParseRefused>
+    ensures { Parses (λ ask. Find ask.k ask.l ask.vector) result (search_of (given operands.entry)) }
 {
     let Some(word) = operands.next() else {
         return Err(ParseRefused::Fault);
@@ -85,26 +141,39 @@ fn read_search(alloc: Global, mut operands: Words<'_>) -> Result<Ask, ParseRefus
     Ask::new(k as u16, l as u16, vector).ok_or(ParseRefused::Fault)
 }
 
-/// The command of which these are the verb and the operands.
-fn read_command(alloc: Global, mut text: Words<'_>) -> Result<Command, ParseRefused>
-    ensures { Parses order_of result (command (words text.entry.rest.now)) }
+/// One change, which is no batch.
+fn read_single(alloc: Global, text: &[u8]) -> Result<ChangeList, ParseRefused>
+    ensures { Parses (λ l. l) result (single (words text.now)) }
 {
-    let Some(verb) = text.next() else {
+    let mut changes = ChangeList::new(alloc);
+    changes.push(read_change(alloc, Operands::all(text))?)?;
+    Ok(changes)
+}
+
+/// The command of which this is the text, verb and operands.
+fn read_command(alloc: Global, text: &[u8]) -> Result<Command, ParseRefused>
+    ensures { Parses order_of result (command (words text.now)) }
+{
+    let mut operands = Words { rest: text };
+    let Some(verb) = operands.next() else {
         return Err(ParseRefused::Fault);
     };
-    if verb == b"insert".as_slice() {
-        let mut changes = ChangeList::new(alloc);
-        changes.push(read_insert(alloc, text)?)?;
-        return Ok(Command::Update {
-            changes,
-            batch: false,
-        });
-    }
     if verb == b"search".as_slice() {
-        let ask = read_search(alloc, text)?;
+        let ask = read_search(alloc, Operands::all(operands.rest))?;
         return Ok(Command::Search { ask });
     }
-    Err(ParseRefused::Fault)
+    if verb == b"batch".as_slice() {
+        let changes = read_batch(alloc, operands.rest)?;
+        return Ok(Command::Update {
+            changes,
+            batch: true,
+        });
+    }
+    let changes = read_single(alloc, text)?;
+    Ok(Command::Update {
+        changes,
+        batch: false,
+    })
 }
 
 /// Whether each byte of a word may stand in a name.
@@ -145,6 +214,6 @@ pub fn read_line(alloc: Global, line: &[u8]) -> Result<Saying<'_>, ParseRefused>
     if !names(name) {
         return Err(ParseRefused::Fault);
     }
-    let command = read_command(alloc, text)?;
+    let command = read_command(alloc, text.rest)?;
     Ok(Saying::Says { name, command })
 }

@@ -61,7 +61,24 @@ const SCRIPTS: &[(&str, u64)] = &[
     ("a insert", 1),
     ("a", 1),
     ("a search 1 4 0\na insrt 7 1\n", 2),
-    ("a delete 7", 1),
+    ("a delete 7", 0),
+    ("a delete", 1),
+    ("a delete 7 1", 1),
+    ("a delete 18446744073709551616", 1),
+    ("a replace 7 3 4", 0),
+    ("a replace 7", 1),
+    ("a batch insert 7 1 ; delete 8\t; replace 9 2", 0),
+    ("a batch delete 7 ;  delete 7", 0),
+    ("a batch", 1),
+    ("a batch ;", 1),
+    ("a batch delete 7 ;", 1),
+    ("a batch ; delete 7", 1),
+    ("a batch delete 7 ; ; delete 7", 1),
+    ("a batch insert 7 1; delete 8", 1),
+    ("a batch search 1 1 0", 1),
+    ("a batch batch delete 7", 1),
+    ("a insert 7 1 ; delete 8", 1),
+    ("a delete 7 ; delete 8", 1),
     ("a merge", 1),
     ("a search 0 4 0", 1),
     ("a search 5 4 0", 1),
@@ -92,6 +109,8 @@ fn finds_the_first_line_at_fault(rt: HostRuntime) -> Result<(), Fail> {
 const LONG: &[(&str, &str, u32, u64, u64)] = &[
     ("a insert 7", " 1", 1024, 0, 0),
     ("a insert 7", " 1", 1025, 0, 1),
+    ("a batch delete 7", " ; delete 7", 63, 0, 0),
+    ("a batch delete 7", " ; delete 7", 64, 0, 1),
     ("a search 1 1 0\n#", " no", 10_000, 1, READ_FAULT),
     ("a search 1 1 0\n#", " no", 10_000, 2, READ_FAULT),
     ("a search 1 1 0\n#", " no", 10_000, 9, 0),
@@ -118,6 +137,17 @@ fn is_insert(command: &Command) -> bool {
     }
 }
 
+fn is_batch(command: &Command) -> bool {
+    match command {
+        Command::Update {
+            changes,
+            batch: true,
+        } =>
+            matches!(changes.items(), [Change::Delete { tag: 8 }, Change::Replace { tag: 9, vector }] if vector.bytes() == [1].as_slice()),
+        _ => false,
+    }
+}
+
 fn is_search(command: &Command) -> bool {
     match command {
         Command::Search { ask } => ask.k == 1
@@ -133,14 +163,19 @@ fn is_read(script: &Script) -> bool {
     }
     let commands = script.commands(0);
     script.name(0) == "bob"
-        && commands.len() == 2
+        && commands.len() == 3
         && is_insert(&commands[0])
-        && is_search(&commands[1])
+        && is_batch(&commands[1])
+        && is_search(&commands[2])
 }
 
 #[test]
 fn reads_names_and_commands(rt: HostRuntime) -> Result<(), Fail> {
-    let mut input = MemorySource::new(rt.alloc(), b"bob insert 7 3 4\nbob search 1 4 0 9\n", &[])?;
+    let mut input = MemorySource::new(
+        rt.alloc(),
+        b"bob insert 7 3 4\nbob batch delete 8 ; replace 9 1\nbob search 1 4 0 9\n",
+        &[],
+    )?;
     assert!(rt; is_read(&Script::read(rt.alloc(), &mut input, Verbs::Once, 1)?));
     Ok(())
 }

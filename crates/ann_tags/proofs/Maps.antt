@@ -150,3 +150,14 @@ pub differ_from_distinct : (es : Names) → IsDistinct nat_eq (keys_of es) → T
 differ_from_distinct [] distinct = tt
 differ_from_distinct (e ∷ es) distinct =
     (absent es e.0 (IsDistinct-head nat_eq e.0 (keys_of es) distinct), differ_from_distinct es (IsDistinct-tail nat_eq e.0 (keys_of es) distinct))
+
+-- a tag that was added or taken away, and the others
+pub found_insert : (pids : Pids) (tag pid q : ℕ) → is_some (get (insert pids tag pid) q) ≡ cond (nat_eq tag q) true (is_some (get pids q))
+found_insert pids tag pid q =
+    ap is_some (get-insert nat_cmp_total pids tag pid q ∙ ap (λ b. cond b (Some pid) (get pids q)) (test_flips q tag))
+    ∙ elim (nat_eq tag q) as (λ b. is_some (cond b (Some pid) (get pids q)) ≡ cond b true (is_some (get pids q))) [ true ↦ refl | false ↦ refl ]
+
+pub found_remove : (pids : Pids) (tag q : ℕ) → is_some (get (remove pids tag) q) ≡ cond (nat_eq tag q) false (is_some (get pids q))
+found_remove pids tag q =
+    ap is_some (get-remove nat_cmp_total pids tag q ∙ ap (λ b. cond b None (get pids q)) (test_flips q tag))
+    ∙ elim (nat_eq tag q) as (λ b. is_some (cond b None (get pids q)) ≡ cond b false (is_some (get pids q))) [ true ↦ refl | false ↦ refl ]
