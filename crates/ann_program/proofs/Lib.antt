@@ -2,3 +2,4 @@ pub mod Counts
 pub mod Living
 pub mod Serving
 mod Ends
+pub mod Zeros

@@ -1,4 +1,5 @@
 pub mod Words
+pub mod Book
 pub mod Once
 pub mod Servable
 pub mod Standing

@@ -1,6 +1,5 @@
 -- What the command `once` writes for a script.
-use Rattle.std.specs.Prelude.{ℕ, ◌+◌, Bool, List, [], ◌∷◌, ◌++◌, ◌==◌, Option, None, Some, map, length, replicate, if◌then◌else◌}
-use Rattle.ann_types.specs.Codes.{Book}
+use Rattle.std.specs.Prelude.{ℕ, ◌+◌, Bool, List, [], ◌∷◌, ◌++◌, ◌==◌, Option, None, Some, map, length, if◌then◌else◌}
 use Rattle.ann_types.specs.Index.{Index}
 use Rattle.ann_types.specs.Lists.{BasedList, empty_list, with_entries, length_of, live_of}
 use Rattle.ann_types.specs.Fold.{fold_of}
@@ -12,6 +11,7 @@ use Rattle.ann_types.specs.declared.change.Change.TheVariants as change
 use Rattle.ann_script.specs.Order.{Order, Apply, Find}
 use Rattle.ann_script.specs.Script.{Client}
 use Rattle.ann_script.specs.Transcript.{line_text, last_text}
+use Rattle.ann_program.specs.Book.{zeros}
 use Rattle.ann_script.specs.declared.reply.Kind.{Kind}
 use Rattle.ann_script.specs.declared.reply.Kind.TheVariants as kind
 use Rattle.ann_script.specs.declared.reply.UpdateWord.{UpdateWord}
@@ -19,10 +19,6 @@ use Rattle.ann_script.specs.declared.reply.UpdateWord.TheVariants as update
 use Rattle.ann_script.specs.declared.reply.SearchWord.TheVariants as search_word
 use Rattle.ann_script.specs.declared.reply.Reply.{Reply}
 use Rattle.ann_script.specs.declared.reply.Reply.TheVariants as reply
-
--- a codebook of zeros for vectors of one part; no answer uses it
-unfoldable pub zeros : ℕ → Book
-zeros d = replicate 256 (replicate d 0) ∷ []
 
 -- the index of `once`, whose long-term graph stays empty
 abbrev pub once_index : Params → Index

@@ -1,6 +1,7 @@
 //! The program.
 #![tactic(auto)]
 
+mod book;
 mod owed;
 mod standing;
 mod words;

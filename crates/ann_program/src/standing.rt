@@ -71,12 +71,7 @@ impl<'a> Standing<'a> {
     }
 
     /// Why a vector, or the want of a Pid for it, refuses the change of this index behind those before it.
-    fn refuses_vector(
-        &self,
-        changes: &[Change],
-        vector: &Vector,
-        index: u32,
-    ) -> Option<UpdateWord>
+    fn refuses_vector(&self, changes: &[Change], vector: &Vector, index: u32) -> Option<UpdateWord>
         requires few { length changes.now < 2 ^ 32 }
         ensures { (h : BasedList) → KnowsOf h self.now → result ≡ word_by index self.now.at (judge_vector self.now.params.now (behind h changes.now) vector.now None) }
     {
@@ -105,8 +100,16 @@ impl<'a> Standing<'a> {
         let at = self.at;
         let tag = tag_of(change);
         let live = self.is_live(changes, tag);
-        let absent = if live { None } else { Some(UpdateWord::Absent { index, tag, at }) };
-        let present = if live { Some(UpdateWord::Present { index, tag, at }) } else { None };
+        let absent = if live {
+            None
+        } else {
+            Some(UpdateWord::Absent { index, tag, at })
+        };
+        let present = if live {
+            Some(UpdateWord::Present { index, tag, at })
+        } else {
+            None
+        };
         match change {
             Change::Insert { tag: _, vector } => {
                 self.refuses_vector(changes, vector, index).or(present)
