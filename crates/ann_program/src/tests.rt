@@ -1,0 +1,152 @@
+use crate::run_alone;
+use ann_script::{MemorySink, MemorySource};
+use std::alloc::{AllocError, Global};
+use std::test::Fail;
+
+fn words_of(alloc: Global, line: &str) -> Result<Vec<String>, AllocError> {
+    let mut words = Vec::new(alloc);
+    for word in line.split_whitespace() {
+        words.push(String::from_str(alloc, word)?)?;
+    }
+    Ok(words)
+}
+
+/// The status of a run, and whether it writes this text. The reads and writes that fail are counted from 1.
+fn ends(
+    alloc: Global,
+    line: &str,
+    script: &str,
+    failing: (u64, u64),
+    text: &str,
+) -> Result<(u8, bool), AllocError> {
+    let words = words_of(alloc, line)?;
+    let mut input = MemorySource::new(alloc, script.as_bytes(), &[failing.0])?;
+    let mut out = MemorySink::new(alloc, 5, &[failing.1])?;
+    let status = run_alone(alloc, &words, &mut input, &mut out);
+    Ok((status, out.bytes() == text.as_bytes()))
+}
+
+/// A command line, a script, and what is written with status 0.
+const RUNS: &[(&str, &str, &str)] = &[
+    ("once 2 2 4 1/1", "", "log 0 entries, 0 live\n"),
+    (
+        "once 2 2 4 1/1",
+        "a insert 7 3 4\na search 1 4 0 0\n",
+        "a 1 inserted 7 at 1\na 2 found at 1 7:25\nlog 1 entries, 1 live\n",
+    ),
+    (
+        "once 2 2 4 1/1",
+        "a search 1 4 0 0\n",
+        "a 1 found at 0 none\nlog 0 entries, 0 live\n",
+    ),
+    (
+        "once 2 2 4 1/1",
+        "a insert 9 0 1\na insert 5 1 0\na search 1 4 0 0\n",
+        "a 1 inserted 9 at 1\na 2 inserted 5 at 2\na 3 found at 2 9:1\nlog 2 entries, 2 live\n",
+    ),
+    (
+        "once 2 2 10 1/1",
+        "a insert 1 100 100\na insert 2 110 100\na insert 3 90 100\na insert 4 105 100\na search 1 1 90 100\na search 1 1 105 100",
+        "a 1 inserted 1 at 1\na 2 inserted 2 at 2\na 3 inserted 3 at 3\na 4 inserted 4 at 4\na 5 found at 4 3:0\na 6 found at 4 4:0\nlog 4 entries, 4 live\n",
+    ),
+    (
+        "once 2 2 4 1/1",
+        "a insert 7 3 4\na insert 7 1 1\na insert 7 1\na search 3 3 3 4\n",
+        "a 1 inserted 7 at 1\na 2 present 7 at 1\na 3 dimension 1 of 2 at 1\na 4 found at 1 7:0\nlog 1 entries, 1 live\n",
+    ),
+    (
+        "once 2 2 4 1/1",
+        "a insert 7 1\na search 1 4 0 0 0\n",
+        "a 1 dimension 1 of 2 at 0\na 2 dimension 3 of 2\nlog 0 entries, 0 live\n",
+    ),
+    (
+        "once 1 128 1000 100/100",
+        " a\tinsert  18446744073709551615 255\r\n# no more\na search 1 1 0",
+        "a 1 inserted 18446744073709551615 at 1\na 2 found at 1 18446744073709551615:65025\nlog 1 entries, 1 live\n",
+    ),
+];
+
+#[test]
+fn serves_scripts(rt: HostRuntime) -> Result<(), Fail> {
+    for (line, script, text) in RUNS {
+        assert_eq!(rt;
+            ends(rt.alloc(), line, script, (0, 0), text)?,
+            (0, true),
+            "{script}"
+        );
+    }
+    Ok(())
+}
+
+/// A script, the read and the write that fail, what is written, and the status.
+const FAULTS: &[(&str, u64, u64, &str, u8)] = &[
+    (
+        "a search 3 4 9 9\n#\n\r\nlast_one\tinsert 7 3 4",
+        0,
+        0,
+        "line 4\n",
+        3,
+    ),
+    ("a insert 7 3 4\na insert x 1 1\n", 0, 0, "line 2\n", 3),
+    ("abcdefghijklm_-01 search 1 1 0 0\n", 0, 0, "line 1\n", 3),
+    (
+        "a insert 7 3 4\na search 1 4 0 0\n",
+        1,
+        0,
+        "read fault\n",
+        4,
+    ),
+    (
+        "a insert 7 3 4\na search 1 4 0 0\n",
+        2,
+        0,
+        "read fault\n",
+        4,
+    ),
+    ("a insert 7 3 4\na search 1 4 0 0\n", 0, 2, "a 1 i", 5),
+];
+
+#[test]
+fn tells_faults(rt: HostRuntime) -> Result<(), Fail> {
+    for (script, read, write, text, status) in FAULTS {
+        assert_eq!(rt;
+            ends(rt.alloc(), "once 2 2 4 1/1", script, (*read, *write), text)?,
+            (*status, true),
+            "{script}"
+        );
+    }
+    Ok(())
+}
+
+/// Command lines at fault.
+const LINES: &[&str] = &[
+    "",
+    "once",
+    "twice 2 2 4 1/1",
+    "once 2 2 4 1/1 9",
+    "once 0 2 4 1/1",
+    "once 1025 2 4 1/1",
+    "once 2 1 4 1/1",
+    "once 2 129 4 1/1",
+    "once 2 2 0 1/1",
+    "once 2 2 1001 1/1",
+    "once 2 2 4 1/2",
+    "once 2 2 4 1/0",
+    "once 2 2 4 101/1",
+    "once 2 2 4 1",
+    "once 02 2 4 1/1",
+    "once +2 2 4 1/1",
+    "once 2 2 4 1/1/1",
+];
+
+#[test]
+fn tells_the_usage(rt: HostRuntime) -> Result<(), Fail> {
+    for line in LINES {
+        assert_eq!(rt;
+            ends(rt.alloc(), line, "a search 1 4 0 0\n", (0, 0), "usage\n")?,
+            (2, true),
+            "{line}"
+        );
+    }
+    Ok(())
+}
