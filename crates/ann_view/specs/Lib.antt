@@ -3,3 +3,4 @@ pub mod View
 pub mod Pinned
 pub mod Steps
 pub mod Stands
+pub mod Search

@@ -7,6 +7,7 @@
 #![tactic(auto)]
 
 mod frozen_list;
+mod near;
 mod op;
 mod open_merge;
 mod pinned;
