@@ -1,0 +1,4 @@
+pub mod Shared
+pub mod Deletes
+pub mod Inserts
+pub mod Ages

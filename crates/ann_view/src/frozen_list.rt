@@ -79,7 +79,7 @@ impl FrozenList {
         requires { count ≤ length self.old }
         ensures { self.new ≡ drop count self.old }
     {
-        for _ in 0..count {
+        for removed in 0..count {
             let _ = self.graphs.remove(0);
         }
     }

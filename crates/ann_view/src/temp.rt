@@ -83,10 +83,11 @@ impl TempIndex {
         ensures refused { OnErr result (self.new ≡ self.old) }
     {
         if Graph::count(&self.rw) + 1 < self.params.freeze_at {
-            put(&mut self.rw, &mut self.scratch, pid, tag, vector)
+            put(&mut self.rw, &mut self.scratch, pid, tag, vector)?;
         } else {
-            self.insert_last(pid, tag, vector)
+            self.insert_last(pid, tag, vector)?;
         }
+        Ok(())
     }
 
     /// Puts the point that fills the graph, in a copy of it, and freezes that.
@@ -110,7 +111,8 @@ impl TempIndex {
         ensures deleted { OnOk result (self.new ≡ record self.old { state = deleted self.old.state (pid ∷ []) }) }
         ensures refused { OnErr result (self.new ≡ self.old) }
     {
-        self.dead.add(pid)
+        self.dead.add(pid)?;
+        Ok(())
     }
 
     /// Deletes a point and puts another. The only error is want of memory; nothing has changed then.
@@ -191,11 +193,10 @@ impl TempIndex {
         ensures graphs { IfOk result (λ graphs. MatchOption self.now.state.begun ⊥ (λ b. map (λ (f : FrozenShown). graph_of f.nodes) (map arc_value graphs.items) ≡ take b.frozen self.now.state.ros)) }
         ensures params { IfOk result (λ graphs. All (λ (f : FrozenShown). f.params ≡ self.now.params) (map arc_value graphs.items)) }
     {
-        let count = match &self.begun {
-            Some(begun) => begun.frozen(),
-            None => 0,
-        };
-        self.ros.first(count)
+        match &self.begun {
+            Some(begun) => self.ros.first(begun.frozen()),
+            None => unreachable!(),
+        }
     }
 
     /// The deleted points that the open merge takes. The only error is want of memory.
