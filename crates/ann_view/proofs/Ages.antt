@@ -29,10 +29,9 @@ points_append (g ∷ xs) ys = ap (λ t. g.points ++ t) (points_append xs ys) ∙
 
 all_points_frozen : (s : State) (g : Graph) → all_points (frozen s g) ≡ all_points (record s { rw = g })
 all_points_frozen s g =
-    ap (λ t. s.lti.points ++ t)
-    (append-nil (points_in (s.ros ++ g ∷ []))
-    ∙ points_append s.ros (g ∷ [])
-    ∙ ap (λ t. points_in s.ros ++ t) (append-nil g.points))
+    append-nil (s.lti.points ++ points_in (s.ros ++ g ∷ []))
+    ∙ ap (λ t. s.lti.points ++ t) (points_append s.ros (g ∷ []) ∙ ap (λ t. points_in s.ros ++ t) (append-nil g.points))
+    ∙ sym (append_assoc s.lti.points (points_in s.ros) g.points)
 
 pids_frozen : (s : State) (g : Graph) → pids_of (all_points (frozen s g)) ≡ pids_of (all_points (record s { rw = g }))
 pids_frozen s g = ap pids_of (all_points_frozen s g)
@@ -102,7 +101,7 @@ view_pointed view memory w small pids same =
     }
 
 pub view_gone_on : {S : Type 0} (view : Shown S) (memory : State) → IsView view → pids_of (all_points memory) ≡ pids_of (all_points view.memory) → MatchOption memory.begun (Unit {0}) (λ b. b.position < view.at + 1) → IsView (with_entry_more view memory)
-view_gone_on view memory w pids open =
+view_gone_on view memory w pids before =
     let is : pids_in view.segment memory ≡ pids_in view.segment view.memory = ap (λ t. segment_pids view.segment ++ t) pids in
     record {
       rising = subst IsStrictlyIncreasing (sym is) w.rising;
@@ -110,7 +109,7 @@ view_gone_on view memory w pids open =
       next = w.next;
       book = w.book;
       codes = w.codes;
-      begun = open;
+      begun = before;
     }
 
 pub view_inserted : {S : Type 0} (view : Shown S) (tag : ℕ) (vector : List ℕ) → IsView view → view.next < pid_end → IsView (with_point_more view (inserted view.params view.memory view.next tag vector))

@@ -109,6 +109,17 @@ impl<S: Sealed> View<S> {
         // A view that stands for a list stands for the list with the entry.
         ensures stands { (h : BasedList) (entry : Entry) → StandsFor self.old h → IsEntryOf h op.now entry → OnOk result (StandsFor self.new (with_entry h entry)) }
     {
+        self.step(op)?;
+        Ok(())
+    }
+
+    /// Goes on by one operation.
+    fn step(&mut self, op: &Op<S>) -> Result<(), AllocError>
+        requires room { self.old.at < 2 ^ 64 - 1 }
+        requires fits { MayApply self.old op.now }
+        ensures applied { OnOk result (self.new ≡ applied self.old op.now) }
+        ensures refused { OnErr result (self.new ≡ self.old) }
+    {
         match op {
             Op::Insert { tag, vector } => self.insert(*tag, vector),
             Op::Delete { pid } => self.delete(*pid),
