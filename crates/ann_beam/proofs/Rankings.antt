@@ -1,0 +1,140 @@
+-- Pids and hits side by side, and the place of a point among them.
+use Rattle.std.proofs.Common.{◌≡◌, ℕ, zero, suc, ◌+◌, ◌≤◌, ◌<◌, Bool, true, false, cond, eqb, List, [], ◌∷◌, ◌++◌, ◌||◌, refl, sym, ap, ◌∙◌, subst, arith, take, drop, map, length, get_or, add-one}
+use Rattle.std.specs.Prelude.{insert}
+use Rattle.std.proofs.lemmas.List.{take-map}
+use Rattle.std.proofs.lemmas.Bool.{false≢true, false_from_ne_true}
+use Rattle.ann_types.specs.declared.hit.Hit.{Hit}
+use Rattle.ann_types.specs.Order.{before, has, placed, all_placed, in_order, top}
+use Rattle.ann_types.proofs.Ordered.{cut_placed, all_placed-append, has_placed, has_in_order, has_from_take}
+use Rattle.ann_beam.specs.Ranking.{Ranked, hit_of, joined, nearer, rank, ranked, with_all, with_ranked}
+
+pub length-joined : (pids : List ℕ) (hits : List Hit) → length pids ≡ length hits → length (joined pids hits) ≡ length hits
+length-joined [] [] e = refl
+length-joined [] (h ∷ hits) e = absurd (omega arith)
+length-joined (p ∷ pids) [] e = absurd (omega arith)
+length-joined (p ∷ pids) (h ∷ hits) e = ap suc (length-joined pids hits (omega arith))
+
+pub hits_joined : (pids : List ℕ) (hits : List Hit) → length pids ≡ length hits → map hit_of (joined pids hits) ≡ hits
+hits_joined [] [] e = refl
+hits_joined [] (h ∷ hits) e = absurd (omega arith)
+hits_joined (p ∷ pids) [] e = absurd (omega arith)
+hits_joined (p ∷ pids) (h ∷ hits) e = ap (λ t. h ∷ t) (hits_joined pids hits (omega arith))
+
+pub take_joined : (n : ℕ) (pids : List ℕ) (hits : List Hit) → take n (joined pids hits) ≡ joined (take n pids) (take n hits)
+take_joined zero pids hits = refl
+take_joined (suc n) [] hits = refl
+take_joined (suc n) (p ∷ pids) [] = refl
+take_joined (suc n) (p ∷ pids) (h ∷ hits) = ap (λ t. (record { pid = p; tag = h.tag; distance = h.distance }) ∷ t) (take_joined n pids hits)
+
+pub insert_joined : (i p : ℕ) (h : Hit) (pids : List ℕ) (hits : List Hit) → length pids ≡ length hits → i ≤ length hits → insert (joined pids hits) i (record { pid = p; tag = h.tag; distance = h.distance }) ≡ joined (insert pids i p) (insert hits i h)
+insert_joined zero p h pids hits e l = refl
+insert_joined (suc i) p h [] [] e l = absurd (omega arith)
+insert_joined (suc i) p h [] (k ∷ hits) e l = absurd (omega arith)
+insert_joined (suc i) p h (q ∷ pids) [] e l = absurd (omega arith)
+insert_joined (suc i) p h (q ∷ pids) (k ∷ hits) e l = ap (λ t. (record { pid = q; tag = k.tag; distance = k.distance }) ∷ t) (insert_joined i p h pids hits (omega arith) (omega arith))
+
+joined_at : (i dp : ℕ) (d : Ranked) (dh : Hit) (pids : List ℕ) (hits : List Hit) → length pids ≡ length hits → i < length hits → get_or (joined pids hits) i d ≡ record { pid = get_or pids i dp; tag = (get_or hits i dh).tag; distance = (get_or hits i dh).distance }
+joined_at i dp d dh [] hits e l = absurd (omega arith)
+joined_at i dp d dh (p ∷ pids) [] e l = absurd (omega arith)
+joined_at zero dp d dh (p ∷ pids) (h ∷ hits) e l = refl
+joined_at (suc i) dp d dh (p ∷ pids) (h ∷ hits) e l = joined_at i dp d dh pids hits (omega arith) (omega arith)
+
+-- ---- the place of a point
+
+-- x belongs behind the first points
+abbrev pub Belongs : Ranked → List Ranked → ℕ → Type 0
+Belongs x s i = ranked x s ≡ take i s ++ ranked x (drop i s)
+
+passed : (x : Ranked) (s : List Ranked) (i : ℕ) (d : Ranked) → i < length s → nearer x (get_or s i d) ≡ false → Belongs x s i → Belongs x s (i + 1)
+passed x s i d l h e = subst (Belongs x s) (sym (add-one i)) (e ∙ shifted x s i d l h)
+  where
+    shifted : (x : Ranked) (s : List Ranked) (i : ℕ) (d : Ranked) → i < length s → nearer x (get_or s i d) ≡ false → take i s ++ ranked x (drop i s) ≡ take (suc i) s ++ ranked x (drop (suc i) s)
+    shifted x [] i d l h = absurd (omega arith)
+    shifted x (y ∷ s) zero d l h = ap (λ t. cond t (x ∷ y ∷ s) (y ∷ ranked x s)) h
+    shifted x (y ∷ s) (suc i) d l h = ap (λ t. y ∷ t) (shifted x s i d (omega arith) h)
+
+found : (x : Ranked) (s : List Ranked) (i : ℕ) (d : Ranked) → i < length s → nearer x (get_or s i d) ≡ true → Belongs x s i → ranked x s ≡ insert s i x
+found x s i d l h e = e ∙ there x s i d l h
+  where
+    there : (x : Ranked) (s : List Ranked) (i : ℕ) (d : Ranked) → i < length s → nearer x (get_or s i d) ≡ true → take i s ++ ranked x (drop i s) ≡ insert s i x
+    there x [] i d l h = absurd (omega arith)
+    there x (y ∷ s) zero d l h = ap (λ t. cond t (x ∷ y ∷ s) (y ∷ ranked x s)) h
+    there x (y ∷ s) (suc i) d l h = ap (λ t. y ∷ t) (there x s i d (omega arith) h)
+
+last_of_all : (x : Ranked) (s : List Ranked) (i : ℕ) → length s ≡ i → Belongs x s i → ranked x s ≡ insert s i x
+last_of_all x s i l e = e ∙ behind x s i l
+  where
+    behind : (x : Ranked) (s : List Ranked) (i : ℕ) → length s ≡ i → take i s ++ ranked x (drop i s) ≡ insert s i x
+    behind x [] i l = subst (λ (n : ℕ). take n [] ++ ranked x (drop n []) ≡ insert [] n x) l refl
+    behind x (y ∷ s) zero l = absurd (omega arith)
+    behind x (y ∷ s) (suc i) l = ap (λ t. y ∷ t) (behind x s i (omega arith))
+
+-- ---- the same of Pids and hits side by side
+
+-- the point at a place
+abbrev pub at_place : List ℕ → List Hit → ℕ → Ranked
+at_place pids hits i = record { pid = get_or pids i 0; tag = (get_or hits i (record { tag = 0; distance = 0 })).tag; distance = (get_or hits i (record { tag = 0; distance = 0 })).distance }
+
+pub passed_joined : (x : Ranked) (pids : List ℕ) (hits : List Hit) (i : ℕ) → length pids ≡ length hits → i < length hits → nearer x (at_place pids hits i) ≡ false → Belongs x (joined pids hits) i → Belongs x (joined pids hits) (i + 1)
+passed_joined x pids hits i e l after b =
+    let d : Ranked = at_place pids hits i in
+    passed x (joined pids hits) i d (let size = length-joined pids hits e in omega arith) (ap (nearer x) (joined_at i 0 d (record { tag = 0; distance = 0 }) pids hits e l) ∙ after) b
+
+pub found_joined : (x : Ranked) (pids : List ℕ) (hits : List Hit) (i : ℕ) → length pids ≡ length hits → i < length hits → nearer x (at_place pids hits i) ≡ true → Belongs x (joined pids hits) i → ranked x (joined pids hits) ≡ insert (joined pids hits) i x
+found_joined x pids hits i e l before b =
+    let d : Ranked = at_place pids hits i in
+    found x (joined pids hits) i d (let size = length-joined pids hits e in omega arith) (ap (nearer x) (joined_at i 0 d (record { tag = 0; distance = 0 }) pids hits e l) ∙ before) b
+
+pub last_joined : (x : Ranked) (pids : List ℕ) (hits : List Hit) (i : ℕ) → length pids ≡ length hits → length hits ≡ i → Belongs x (joined pids hits) i → ranked x (joined pids hits) ≡ insert (joined pids hits) i x
+last_joined x pids hits i e l b = last_of_all x (joined pids hits) i (length-joined pids hits e ∙ l) b
+
+-- both lists with a point inserted and cut
+pub added : (n i p : ℕ) (h : Hit) (pids : List ℕ) (hits : List Hit) → length pids ≡ length hits → i ≤ length hits → ranked (record { pid = p; tag = h.tag; distance = h.distance }) (joined pids hits) ≡ insert (joined pids hits) i (record { pid = p; tag = h.tag; distance = h.distance }) → joined (take n (insert pids i p)) (take n (insert hits i h)) ≡ with_ranked n (record { pid = p; tag = h.tag; distance = h.distance }) (joined pids hits)
+added n i p h pids hits e l place = sym (take_joined n (insert pids i p) (insert hits i h)) ∙ ap (take n) (sym (place ∙ insert_joined i p h pids hits e l))
+
+-- ---- points that are added in turn
+
+-- A Pid that isn't there is ranked where it is placed.
+ranked_placed : (far tag : ℕ → ℕ) (p : ℕ) (s : List ℕ) → has s p ≡ false → ranked (rank far tag p) (map (rank far tag) s) ≡ map (rank far tag) (placed far p s)
+ranked_placed far tag p [] h = refl
+ranked_placed far tag p (q ∷ s) h =
+    let other = or_false_left (eqb p q) (has s p) h in
+    elim (before far p q) as (λ t. cond t (rank far tag p ∷ rank far tag q ∷ map (rank far tag) s) (rank far tag q ∷ ranked (rank far tag p) (map (rank far tag) s)) ≡ map (rank far tag) (cond t (p ∷ q ∷ s) (cond (eqb p q) (q ∷ s) (q ∷ placed far p s)))) [
+      | true ↦ refl
+      | false ↦ ap (λ t. rank far tag q ∷ t) (ranked_placed far tag p s other.1) ∙ ap (λ t. map (rank far tag) (cond t (q ∷ s) (q ∷ placed far p s))) (sym other.0)
+    ]
+  where
+    or_false_left : (a b : Bool) → (a || b) ≡ false → (a ≡ false) × (b ≡ false)
+    or_false_left true b h = absurd (false≢true (sym h))
+    or_false_left false b h = (refl, h)
+
+not_taken : (n p : ℕ) (s : List ℕ) → has s p ≡ false → has (take n s) p ≡ false
+not_taken n p s h = false_from_ne_true (has (take n s) p) (λ k. false≢true (sym h ∙ has_from_take n p s k))
+
+-- A Pid that isn't among all that was placed finds its place among the least of them.
+one_ranked : (far tag : ℕ → ℕ) (n p : ℕ) (s : List ℕ) → has s p ≡ false → with_ranked n (rank far tag p) (map (rank far tag) (take n s)) ≡ map (rank far tag) (take n (placed far p s))
+one_ranked far tag n p s h =
+    ap (take n) (ranked_placed far tag p (take n s) (not_taken n p s h))
+    ∙ take-map (rank far tag) n (placed far p (take n s))
+    ∙ ap (map (rank far tag)) (cut_placed far n p s)
+
+-- Pids that differ, and aren't there.
+abbrev pub AreNew : List ℕ → List ℕ → Type 0
+AreNew there [] = Unit {0}
+AreNew there (p ∷ pids) = (has there p ≡ false) × AreNew (p ∷ there) pids
+
+all_placed_new : (far tag : ℕ → ℕ) (n : ℕ) (pids s there : List ℕ) → ((z : ℕ) → has s z ≡ has there z) → AreNew there pids → with_all n (map (rank far tag) pids) (map (rank far tag) (take n s)) ≡ map (rank far tag) (take n (all_placed far s pids))
+all_placed_new far tag n [] s there same a = refl
+all_placed_new far tag n (p ∷ pids) s there same (h, a) =
+    ap (with_all n (map (rank far tag) pids)) (one_ranked far tag n p s (same p ∙ h))
+    ∙ all_placed_new far tag n pids (placed far p s) (p ∷ there) (λ z. has_placed far p z s ∙ ap (λ t. eqb z p || t) (same z)) a
+
+-- What stands in order has the points that were placed.
+pub all_ranked : (far tag : ℕ → ℕ) (n : ℕ) (pids more : List ℕ) → AreNew pids more → with_all n (map (rank far tag) more) (map (rank far tag) (top far n pids)) ≡ map (rank far tag) (top far n (pids ++ more))
+all_ranked far tag n pids more a =
+    all_placed_new far tag n more (in_order far pids) pids (λ z. has_in_order far z pids) a
+    ∙ ap (λ t. map (rank far tag) (take n t)) (sym (all_placed-append far [] pids more))
+
+pub with_all-append : (n : ℕ) (xs ys s : List Ranked) → with_all n (xs ++ ys) s ≡ with_all n ys (with_all n xs s)
+with_all-append n [] ys s = refl
+with_all-append n (x ∷ xs) ys s = with_all-append n xs ys (with_ranked n x s)

@@ -1,0 +1,77 @@
+ghost use Rattle.std.specs.Prelude.{◌≡◌, ◌≤◌, [], length, map, IfOk};
+ghost use Rattle.ann_beam.specs.Ranking.{hit_of, with_ranked};
+
+use crate::ranking::Ranking;
+use ann_pool::Pool;
+use ann_pq::Tables;
+use ann_types::{Hit, Params, Pid, Tag};
+use std::alloc::{AllocError, Global};
+
+/// All that a search works with, made once, so that no search takes memory.
+#[derive(Drop)]
+pub struct Desk {
+    /// The candidates of walks through graphs in memory.
+    pub pool: Pool,
+    /// The candidates of a beam, by guided distances.
+    pub(crate) guided: Pool,
+    /// The tables that give guided distances.
+    pub(crate) tables: Tables,
+    /// The block that was read last.
+    pub(crate) page: [u8; 4096],
+    /// The nearest points found so far.
+    pub(crate) ranking: Ranking,
+}
+
+impl Desk {
+    ghost use Rattle.ann_beam.specs.Desk.{page_of, result_of};
+
+    /// A desk for searches of an index with any parameters. The only error is want of memory.
+    pub fn new(alloc: Global, _params: &Params) -> Result<Desk, AllocError>
+        ensures pool { IfOk result (λ desk. desk.pool ≡ record { limit = 1000; items = []; known = [] }) }
+        ensures result { IfOk result (λ desk. result_of desk ≡ record { limit = 1000; points = [] }) }
+    {
+        Ok(Desk {
+            pool: Pool::with_room(alloc)?,
+            guided: Pool::with_room(alloc)?,
+            tables: Tables::with_room(alloc)?,
+            page: [0; 4096],
+            ranking: Ranking::with_room(alloc)?,
+        })
+    }
+
+    /// Empties the result, and sets how many points it may have: 1 to 1000.
+    pub fn restart(&mut self, k: u16)
+        requires { (1 ≤ k) × (k ≤ 1000) }
+        ensures result { result_of self.new ≡ record { limit = k; points = [] } }
+        ensures pool { self.new.pool ≡ self.old.pool }
+        ensures page { page_of self.new ≡ page_of self.old }
+    {
+        self.ranking.clear(k);
+    }
+
+    /// Adds a point to the result, which then has the least of its points and this one, as many as its limit allows.
+    pub fn add(&mut self, pid: Pid, tag: Tag, distance: u32)
+        ensures limit { (result_of self.new).limit ≡ (result_of self.old).limit }
+        ensures points { (result_of self.new).points ≡ with_ranked (result_of self.old).limit (record { pid = pid; tag = tag; distance = distance }) (result_of self.old).points }
+        ensures pool { self.new.pool ≡ self.old.pool }
+        ensures page { page_of self.new ≡ page_of self.old }
+    {
+        self.ranking.add(pid, tag, distance);
+    }
+
+    /// The result, in order of distance and Pid.
+    pub fn hits(&self) -> &[Hit]
+        ensures hits { result.now ≡ map hit_of (result_of self.now).points }
+        ensures few { length (result_of self.now).points ≤ (result_of self.now).limit }
+    {
+        self.ranking.hits()
+    }
+
+    /// The block that the last beam read last: 4096 bytes.
+    pub fn page(&self) -> &[u8]
+        ensures page { result.now ≡ page_of self.now }
+        ensures size { length result.now ≡ 4096 }
+    {
+        &self.page
+    }
+}

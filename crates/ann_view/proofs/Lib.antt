@@ -1,0 +1,5 @@
+pub mod Shared
+pub mod Deletes
+pub mod Inserts
+pub mod Ages
+pub mod Standing

@@ -1,0 +1,6 @@
+pub mod Temp
+pub mod View
+pub mod Pinned
+pub mod Steps
+pub mod Stands
+pub mod Search

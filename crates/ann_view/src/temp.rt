@@ -1,0 +1,238 @@
+ghost use Rattle.std.specs.Prelude.{◌≡◌, ◌<◌, ◌∷◌, ◌&&◌, [], length, All, IsSome, IfOk, OnOk, OnErr, is_none, map, take, MatchOption, ◌+◌, if◌then◌else◌};
+ghost use Rattle.std.specs.Arc.{arc_value};
+ghost use Rattle.ann_types.specs.Graph.{Point, empty_graph, is_empty};
+ghost use Rattle.ann_types.specs.Fold.{inserted, deleted, frozen, begun_at, switched, start};
+ghost use Rattle.ann_types.specs.Legal.{has_work};
+ghost use Rattle.ann_table.specs.Node.{graph_of};
+ghost use Rattle.ann_frozen.specs.Frozen.{Shown as FrozenShown};
+ghost use Rattle.ann_view.specs.Temp.{IsTemp};
+
+use crate::frozen_list::FrozenList;
+use crate::open_merge::OpenMerge;
+use ann_dead::{Dead, DeadPin};
+use ann_frozen::Frozen;
+use ann_greedy::Graph;
+use ann_insert::{PutScratch, put};
+use ann_table::Table;
+use ann_types::{Params, Pid, Tag};
+use std::alloc::{AllocError, Global};
+use std::marker::Model;
+use std::sync::Arc;
+
+/// The part of an index that is in memory: the graph that takes new points (the RW-TempIndex of FreshDiskANN, section
+/// 5.2), the frozen graphs, the deleted points and the open merge.
+#[derive(Drop)]
+pub(crate) struct TempIndex {
+    alloc: Global,
+    params: Params,
+    rw: Table,
+    scratch: PutScratch,
+    ros: FrozenList,
+    dead: Dead,
+    begun: Option<OpenMerge>,
+}
+
+impl Model for TempIndex {
+    ghost use Rattle.ann_view.specs.Temp.{Temp, state_of, AreKept};
+
+    ghost Value = { Temp };
+
+    ghost view = { λ t. record { params = t.params; state = state_of t.rw t.ros t.dead t.begun } };
+
+    ghost invariant = { λ t. AreKept t.params t.rw t.ros t.dead t.begun };
+}
+
+impl TempIndex {
+    /// Nothing in memory. The only error is want of memory.
+    pub(crate) fn new(alloc: Global, params: &Params) -> Result<TempIndex, AllocError>
+        ensures { IfOk result (λ temp. temp ≡ record { params = params.now; state = start empty_graph }) }
+    {
+        Ok(TempIndex {
+            alloc,
+            params: *params,
+            rw: Table::new(alloc, params),
+            scratch: PutScratch::new(alloc)?,
+            ros: FrozenList::new(alloc),
+            dead: Dead::new(alloc),
+            begun: None,
+        })
+    }
+
+    /// What is true of every such part. It does nothing.
+    pub(crate) fn known(&self)
+        ensures { IsTemp self.now }
+    {
+        let _ = &self.params;
+    }
+
+    /// The parameters of the index.
+    pub(crate) fn params(&self) -> &Params
+        ensures { result.now ≡ self.now.params }
+    {
+        &self.params
+    }
+
+    /// Puts a point into the graph that takes new points, and freezes the graph where that is full.
+    ///
+    /// The only error is want of memory; nothing has changed then.
+    pub(crate) fn insert(&mut self, pid: Pid, tag: Tag, vector: &[u8]) -> Result<(), AllocError>
+        requires above { All (λ (x : Point). x.pid < pid) self.old.state.rw.points }
+        requires small { pid < 4294967295 }
+        requires vector { length vector.now ≡ self.old.params.d }
+        ensures inserted { OnOk result (self.new ≡ record self.old { state = inserted self.old.params self.old.state pid tag vector.now }) }
+        ensures refused { OnErr result (self.new ≡ self.old) }
+    {
+        if Graph::count(&self.rw) + 1 < self.params.freeze_at {
+            put(&mut self.rw, &mut self.scratch, pid, tag, vector)?;
+        } else {
+            self.insert_last(pid, tag, vector)?;
+        }
+        Ok(())
+    }
+
+    /// Puts the point that fills the graph, in a copy of it, and freezes that.
+    fn insert_last(&mut self, pid: Pid, tag: Tag, vector: &[u8]) -> Result<(), AllocError>
+        requires above { All (λ (x : Point). x.pid < pid) self.old.state.rw.points }
+        requires small { pid < 4294967295 }
+        requires vector { length vector.now ≡ self.old.params.d }
+        requires last { length self.old.state.rw.points + 1 ≡ self.old.params.freeze_at }
+        ensures inserted { OnOk result (self.new ≡ record self.old { state = inserted self.old.params self.old.state pid tag vector.now }) }
+        ensures refused { OnErr result (self.new ≡ self.old) }
+    {
+        let mut full = self.rw.copy()?;
+        put(&mut full, &mut self.scratch, pid, tag, vector)?;
+        self.ros.freeze(&full)?;
+        self.rw = Table::new(self.alloc, &self.params);
+        Ok(())
+    }
+
+    /// Deletes a point. The only error is want of memory; nothing has changed then.
+    pub(crate) fn delete(&mut self, pid: Pid) -> Result<(), AllocError>
+        ensures deleted { OnOk result (self.new ≡ record self.old { state = deleted self.old.state (pid ∷ []) }) }
+        ensures refused { OnErr result (self.new ≡ self.old) }
+    {
+        self.dead.add(pid)?;
+        Ok(())
+    }
+
+    /// Deletes a point and puts another. The only error is want of memory; nothing has changed then.
+    pub(crate) fn replace(
+        &mut self,
+        gone: Pid,
+        pid: Pid,
+        tag: Tag,
+        vector: &[u8],
+    ) -> Result<(), AllocError>
+        requires above { All (λ (x : Point). x.pid < pid) self.old.state.rw.points }
+        requires small { pid < 4294967295 }
+        requires vector { length vector.now ≡ self.old.params.d }
+        ensures replaced { OnOk result (self.new ≡ record self.old { state = inserted self.old.params (deleted self.old.state (gone ∷ [])) pid tag vector.now }) }
+        ensures refused { OnErr result (self.new ≡ self.old) }
+    {
+        let mut dead = self.dead.copy()?;
+        dead.add(gone)?;
+        self.insert(pid, tag, vector)?;
+        self.dead = dead;
+        Ok(())
+    }
+
+    /// Begins a merge: the graph that takes new points freezes, and the frozen graphs and the deleted points of this
+    /// moment are the merge's (StreamingMerge of FreshDiskANN, section 5.3).
+    ///
+    /// The only error is want of memory; nothing has changed then.
+    pub(crate) fn begin(&mut self, position: u64) -> Result<(), AllocError>
+        ensures begun { OnOk result (self.new ≡ record self.old { state = begun_at self.old.state position }) }
+        ensures refused { OnErr result (self.new ≡ self.old) }
+    {
+        let gone = self.dead.copy()?;
+        self.freeze()?;
+        self.begun = Some(OpenMerge::new(position, self.ros.len(), gone));
+        Ok(())
+    }
+
+    /// Freezes the graph that takes new points, unless it is empty.
+    fn freeze(&mut self) -> Result<(), AllocError>
+        ensures frozen { OnOk result (self.new ≡ record self.old { state = if is_empty self.old.state.rw then self.old.state else frozen self.old.state self.old.state.rw }) }
+        ensures refused { OnErr result (self.new ≡ self.old) }
+    {
+        if Graph::count(&self.rw) == 0 {
+            return Ok(());
+        }
+        self.ros.freeze(&self.rw)?;
+        self.rw = Table::new(self.alloc, &self.params);
+        Ok(())
+    }
+
+    /// Ends the open merge: the graphs and the deleted points that it took leave. Deletes since its begin stay.
+    ///
+    /// The only error is want of memory; nothing has changed then.
+    pub(crate) fn end(&mut self) -> Result<(), AllocError>
+        ensures ended { OnOk result (self.new ≡ record self.old { state = switched self.old.state empty_graph self.old.state.begun }) }
+        ensures refused { OnErr result (self.new ≡ self.old) }
+    {
+        let Some(begun) = &self.begun else {
+            return Ok(());
+        };
+        self.dead.remove_all(begun.gone())?;
+        self.ros.remove_first(begun.frozen());
+        self.begun = None;
+        Ok(())
+    }
+
+    /// Whether no merge is open and there is something to merge.
+    pub(crate) fn can_begin(&self) -> bool
+        ensures { result ≡ (is_none self.now.state.begun && has_work self.now.state) }
+    {
+        let is_idle = Graph::count(&self.rw) == 0 && self.ros.len() == 0 && self.dead.is_empty();
+        self.begun.is_none() && !is_idle
+    }
+
+    /// The frozen graphs that the open merge takes, shared. The only error is want of memory.
+    pub(crate) fn frozen_of_begin(&self) -> Result<Vec<Arc<Frozen>>, AllocError>
+        requires { IsSome self.now.state.begun }
+        ensures graphs { IfOk result (λ graphs. MatchOption self.now.state.begun ⊥ (λ b. map (λ (f : FrozenShown). graph_of f.nodes) (map arc_value graphs.items) ≡ take b.frozen self.now.state.ros)) }
+        ensures params { IfOk result (λ graphs. All (λ (f : FrozenShown). f.params ≡ self.now.params) (map arc_value graphs.items)) }
+    {
+        match &self.begun {
+            Some(begun) => self.ros.first(begun.frozen()),
+            None => unreachable!(),
+        }
+    }
+
+    /// The deleted points that the open merge takes. The only error is want of memory.
+    pub(crate) fn dead_of_begin(&self) -> Result<Dead, AllocError>
+        requires { IsSome self.now.state.begun }
+        ensures { IfOk result (λ dead. MatchOption self.now.state.begun ⊥ (λ b. dead ≡ b.gone)) }
+    {
+        match &self.begun {
+            Some(begun) => begun.gone().copy(),
+            None => unreachable!(),
+        }
+    }
+
+    /// The deleted points, shared as they stand. The only error is want of memory.
+    pub(crate) fn pin(&self) -> Result<DeadPin, AllocError>
+        ensures { IfOk result (λ pin. pin ≡ self.now.state.dead) }
+    {
+        self.dead.pin()
+    }
+
+    /// The same once more. The only error is want of memory.
+    pub(crate) fn copy(&self) -> Result<TempIndex, AllocError>
+        ensures { IfOk result (λ copy. copy ≡ self.now) }
+    {
+        let begun = match &self.begun {
+            Some(begun) => Some(begun.copy()?),
+            None => None,
+        };
+        Ok(TempIndex {
+            alloc: self.alloc,
+            params: self.params,
+            rw: self.rw.copy()?,
+            scratch: PutScratch::new(self.alloc)?,
+            ros: self.ros.copy()?,
+            dead: self.dead.copy()?,
+            begun,
+        })
+    }
+}

@@ -1,0 +1,278 @@
+ghost use Rattle.std.specs.Prelude.{◌≡◌, ◌<◌, ◌≤◌, ◌-◌, ◌^◌, ◌&&◌, ◌∷◌, [], false, None, Some, IsSome, IfOk, OnOk, OnErr, MatchOption, All, map, take, is_none};
+ghost use Rattle.std.specs.Arc.{arc_value};
+ghost use Rattle.std.specs.Option.{option_map};
+ghost use Rattle.ann_types.specs.Graph.{empty_graph};
+ghost use Rattle.ann_types.specs.Lists.{BasedList, with_entry};
+ghost use Rattle.ann_types.specs.Fold.{start, inserted, deleted, begun_at};
+ghost use Rattle.ann_types.specs.Legal.{pid_end, has_work};
+ghost use Rattle.ann_types.specs.declared.entry.Entry.{Entry};
+ghost use Rattle.ann_table.specs.Node.{graph_of};
+ghost use Rattle.ann_frozen.specs.Frozen.{Shown as FrozenShown};
+ghost use Rattle.ann_segment.specs.Directory.{Item};
+ghost use Rattle.ann_view.specs.Temp.{IsTemp};
+ghost use Rattle.ann_view.specs.View.{Shown, IsView};
+ghost use Rattle.ann_view.specs.Pinned.{pinned};
+ghost use Rattle.ann_view.specs.Steps.{applied, with_entry_more, with_point_more, with_segment, ended, FitsIn, MayEnd, MayApply};
+ghost use Rattle.ann_view.specs.Stands.{StandsFor, IsEntryOf};
+
+use crate::op::Op;
+use crate::pinned::Pinned;
+use crate::temp::TempIndex;
+use ann_dead::Dead;
+use ann_frozen::Frozen;
+use ann_pq::Codebook;
+use ann_segment::Segment;
+use ann_types::{Params, Pid, Tag, Vector};
+use ann_vault::Sealed;
+use std::alloc::{AllocError, Global};
+use std::marker::Model;
+use std::sync::Arc;
+
+/// The state of a list of entries: what is in memory, and the segment that holds the long-term graph.
+///
+/// Contracts see it as its count of entries, its next Pid, its state and its segment. It stands for each list that has
+/// these.
+#[derive(Drop)]
+pub struct View<S: Sealed> {
+    book: Arc<Codebook>,
+    at: u64,
+    next: Pid,
+    temp: TempIndex,
+    segment: Option<Arc<Segment<S>>>,
+    closed: bool,
+}
+
+impl<S: Sealed> Model for View<S> {
+    ghost use Rattle.ann_view.specs.View.{Shown, IsView, shown};
+
+    ghost Value = { Shown S };
+
+    ghost view = { λ v. shown v.temp v.book v.at v.next v.segment v.closed };
+
+    ghost invariant = { λ v. IsView (shown v.temp v.book v.at v.next v.segment v.closed) };
+}
+
+impl<S: Sealed> View<S> {
+    /// The view of the list without entries over the empty base. The only error is want of memory.
+    pub fn new(alloc: Global, params: &Params, book: Arc<Codebook>) -> Result<View<S>, AllocError>
+        requires book { (book.value.d ≡ params.now.d) × (book.value.m ≡ params.now.m) }
+        ensures { IfOk result (λ view. view ≡ record { params = params.now; book = book.value; at = 0; next = 0; memory = start empty_graph; segment = None; closed = false }) }
+    {
+        Ok(View {
+            book,
+            at: 0,
+            next: 0,
+            temp: TempIndex::new(alloc, params)?,
+            segment: None,
+            closed: false,
+        })
+    }
+
+    /// The view of a list whose state is a long-term graph alone: its length, its next Pid, which is above the segment's
+    /// Pids, and the segment. The only error is want of memory.
+    pub fn resume(
+        alloc: Global,
+        params: &Params,
+        book: Arc<Codebook>,
+        at: u64,
+        next: Pid,
+        segment: Arc<Segment<S>>,
+    ) -> Result<View<S>, AllocError>
+        requires book { (book.value.d ≡ params.now.d) × (book.value.m ≡ params.now.m) }
+        requires segment { segment.value.m ≡ params.now.m }
+        requires below { All (λ (x : Item). x.0 < next) segment.value.items }
+        ensures { IfOk result (λ view. view ≡ record { params = params.now; book = book.value; at = at; next = next; memory = start empty_graph; segment = Some segment.value; closed = false }) }
+    {
+        segment.known();
+        Ok(View {
+            book,
+            at,
+            next,
+            temp: TempIndex::new(alloc, params)?,
+            segment: Some(segment),
+            closed: false,
+        })
+    }
+
+    /// Goes on by one operation: to the state that its entry leaves (FreshDiskANN, section 5).
+    ///
+    /// An Insert or a Replace has d components and finds a next Pid below `2^32 - 1`; a Begin finds no open Begin, and an
+    /// End finds one, with a segment whose points are older than those that stay in memory. Takes all its memory before
+    /// the first change: the only error is want of memory, and the view is then as before.
+    pub fn apply(&mut self, op: &Op<S>) -> Result<(), AllocError>
+        requires going { self.old.closed ≡ false }
+        requires room { self.old.at < 2 ^ 64 - 1 }
+        requires fits { MayApply self.old op.now }
+        ensures applied { OnOk result (self.new ≡ applied self.old op.now) }
+        ensures refused { OnErr result (self.new ≡ self.old) }
+
+        // A view that stands for a list stands for the list with the entry.
+        ensures stands { (h : BasedList) (entry : Entry) → StandsFor self.old h → IsEntryOf h op.now entry → OnOk result (StandsFor self.new (with_entry h entry)) }
+    {
+        self.step(op)?;
+        Ok(())
+    }
+
+    /// Goes on by one operation.
+    fn step(&mut self, op: &Op<S>) -> Result<(), AllocError>
+        requires room { self.old.at < 2 ^ 64 - 1 }
+        requires fits { MayApply self.old op.now }
+        ensures applied { OnOk result (self.new ≡ applied self.old op.now) }
+        ensures refused { OnErr result (self.new ≡ self.old) }
+    {
+        match op {
+            Op::Insert { tag, vector } => self.insert(*tag, vector),
+            Op::Delete { pid } => self.delete(*pid),
+            Op::Replace { tag, gone, vector } => self.replace(*tag, *gone, vector),
+            Op::Begin => self.begin(),
+            Op::End { segment } => self.end(segment),
+            Op::Close => {
+                self.closed = true;
+                Ok(())
+            }
+        }
+    }
+
+    fn insert(&mut self, tag: Tag, vector: &Vector) -> Result<(), AllocError>
+        requires room { self.old.at < 2 ^ 64 - 1 }
+        requires fits { FitsIn self.old vector.now }
+        ensures applied { OnOk result (self.new ≡ with_point_more self.old (inserted self.old.params self.old.memory self.old.next tag vector.now)) }
+        ensures refused { OnErr result (self.new ≡ self.old) }
+    {
+        self.temp.insert(self.next, tag, vector.bytes())?;
+        self.next += 1;
+        self.at += 1;
+        Ok(())
+    }
+
+    fn delete(&mut self, pid: Pid) -> Result<(), AllocError>
+        requires room { self.old.at < 2 ^ 64 - 1 }
+        ensures applied { OnOk result (self.new ≡ with_entry_more self.old (deleted self.old.memory (pid ∷ []))) }
+        ensures refused { OnErr result (self.new ≡ self.old) }
+    {
+        self.temp.delete(pid)?;
+        self.at += 1;
+        Ok(())
+    }
+
+    fn replace(&mut self, tag: Tag, gone: Pid, vector: &Vector) -> Result<(), AllocError>
+        requires room { self.old.at < 2 ^ 64 - 1 }
+        requires fits { FitsIn self.old vector.now }
+        ensures applied { OnOk result (self.new ≡ with_point_more self.old (inserted self.old.params (deleted self.old.memory (gone ∷ [])) self.old.next tag vector.now)) }
+        ensures refused { OnErr result (self.new ≡ self.old) }
+    {
+        self.temp
+            .replace(gone, self.next, tag, vector.bytes())?;
+        self.next += 1;
+        self.at += 1;
+        Ok(())
+    }
+
+    fn begin(&mut self) -> Result<(), AllocError>
+        requires room { self.old.at < 2 ^ 64 - 1 }
+        ensures applied { OnOk result (self.new ≡ with_entry_more self.old (begun_at self.old.memory self.old.at)) }
+        ensures refused { OnErr result (self.new ≡ self.old) }
+    {
+        self.temp.begin(self.at)?;
+        self.at += 1;
+        Ok(())
+    }
+
+    fn end(&mut self, segment: &Arc<Segment<S>>) -> Result<(), AllocError>
+        requires room { self.old.at < 2 ^ 64 - 1 }
+        requires fits { MayEnd self.old segment.now.value }
+        ensures applied { OnOk result (self.new ≡ with_segment (with_entry_more self.old (ended self.old.memory)) segment.now.value) }
+        ensures refused { OnErr result (self.new ≡ self.old) }
+    {
+        segment.known();
+        let segment = segment.clone()?;
+        self.temp.end()?;
+        self.segment = Some(segment);
+        self.at += 1;
+        Ok(())
+    }
+
+    /// What is true of every view: its Pids rise with age and are below the next one. It does nothing.
+    pub fn known(&self)
+        ensures view { IsView self.now }
+        ensures memory { IsTemp (record { params = self.now.params; state = self.now.memory }) }
+    {
+        self.temp.known();
+    }
+
+    /// Whether a merge may begin: none is open, and there is something to merge.
+    pub fn can_begin(&self) -> bool
+        ensures { result ≡ (is_none self.now.memory.begun && has_work self.now.memory) }
+    {
+        self.temp.can_begin()
+    }
+
+    /// The frozen graphs that the open merge takes, the oldest first and shared. The only error is want of memory.
+    pub fn frozen_of_begin(&self) -> Result<Vec<Arc<Frozen>>, AllocError>
+        requires { IsSome self.now.memory.begun }
+        ensures graphs { IfOk result (λ graphs. MatchOption self.now.memory.begun ⊥ (λ b. map (λ (f : FrozenShown). graph_of f.nodes) (map arc_value graphs.items) ≡ take b.frozen self.now.memory.ros)) }
+        ensures params { IfOk result (λ graphs. All (λ (f : FrozenShown). f.params ≡ self.now.params) (map arc_value graphs.items)) }
+    {
+        self.temp.frozen_of_begin()
+    }
+
+    /// The deleted points that the open merge takes. The only error is want of memory.
+    pub fn dead_of_begin(&self) -> Result<Dead, AllocError>
+        requires { IsSome self.now.memory.begun }
+        ensures { IfOk result (λ dead. MatchOption self.now.memory.begun ⊥ (λ b. dead ≡ b.gone)) }
+    {
+        self.temp.dead_of_begin()
+    }
+
+    /// The segment that holds the long-term graph, shared; none exactly where the view has none. The only error is want
+    /// of memory.
+    pub fn segment(&self) -> Result<Option<Arc<Segment<S>>>, AllocError>
+        ensures { IfOk result (λ segment. option_map arc_value segment ≡ self.now.segment) }
+    {
+        match &self.segment {
+            Some(segment) => Ok(Some(segment.clone()?)),
+            None => Ok(None),
+        }
+    }
+
+    /// How many entries lead to this view.
+    pub fn at(&self) -> u64
+        ensures { result ≡ self.now.at }
+    {
+        self.at
+    }
+
+    /// The Pid that the next point takes.
+    pub fn next(&self) -> Pid
+        ensures { result ≡ self.now.next }
+    {
+        self.next
+    }
+
+    /// The same view once more; the two share what doesn't change. The only error is want of memory.
+    pub fn copy(&self) -> Result<View<S>, AllocError>
+        ensures { IfOk result (λ copy. copy ≡ self.now) }
+    {
+        Ok(View {
+            book: self.book.clone()?,
+            at: self.at,
+            next: self.next,
+            temp: self.temp.copy()?,
+            segment: self.segment()?,
+            closed: self.closed,
+        })
+    }
+
+    /// Shares what a search of the long-term graph needs, as it stands now. The only error is want of memory.
+    pub fn pin(&self) -> Result<Pinned<S>, AllocError>
+        ensures { IfOk result (λ pin. pin ≡ pinned self.now) }
+    {
+        Ok(Pinned {
+            params: *self.temp.params(),
+            book: self.book.clone()?,
+            at: self.at,
+            dead: self.temp.pin()?,
+            segment: self.segment()?,
+        })
+    }
+}
