@@ -7,14 +7,13 @@ use Rattle.ann_types.specs.Index.{Index}
 use Rattle.ann_types.specs.Judge.{Refusal, judge_all, entry_of}
 use Rattle.ann_types.specs.Lists.{BasedList, length_of}
 use Rattle.ann_types.specs.declared.change.Change.{Change}
-use Rattle.ann_types.specs.declared.change.Change.TheVariants.{Insert}
 use Rattle.ann_script.specs.Order.{Order, Apply, Find, order_of}
 use Rattle.ann_script.specs.Script.{Client}
 use Rattle.ann_script.specs.Transcript.{line_text}
 use Rattle.ann_script.specs.declared.command.Command.{Command}
 use Rattle.ann_script.specs.declared.reply.Reply.{Reply}
 use Rattle.ann_program.specs.Once.{reply_to, updated, list_after, lines_from}
-use Rattle.ann_program.specs.Servable.{IsPlain, IsServable}
+use Rattle.ann_program.specs.Servable.{IsBrief, IsServable}
 
 -- the next order and those behind it
 pub next_order : (commands : List Command) (i : ℕ) (command : Command) → i < length commands → command ≡ get_or commands i command → drop i (map order_of commands) ≡ order_of command ∷ drop (i + 1) (map order_of commands)
@@ -37,30 +36,28 @@ text_on index name number h h' order orders rest reply text text' whole next is 
     ∙ text_next index name number h order orders rest text next
     ∙ all
 
--- a plain command makes the list longer by one at most
-updated_long : (h : BasedList) (change : Change) (o : Option (ℕ × Refusal)) → length_of (updated h (change ∷ []) o) ≤ length_of h + 1
-updated_long h change None = let size = length-append h.entries (map (entry_of 0) (change ∷ [])) in omega (arith, size)
-updated_long h change (Some r) = omega arith
+-- a brief command makes the list longer by 64 at most
+updated_long : (h : BasedList) (changes : List Change) (o : Option (ℕ × Refusal)) → length changes ≤ 64 → length_of (updated h changes o) ≤ length_of h + 64
+updated_long h changes None few = let size = length-append h.entries (map (entry_of 0) changes) in let made = length-map changes (entry_of 0) in omega (arith, size, made, few)
+updated_long h changes (Some r) few = omega arith
 
-pub after_long : (index : Index) (h : BasedList) (order : Order) → IsPlain order → length_of (list_after index h order) ≤ length_of h + 1
-after_long index h (Apply changes batch) plain =
-    subst (λ (cs : List Change). length_of (updated h cs (judge_all index.params h 0 cs)) ≤ length_of h + 1) (sym plain.2)
-    (updated_long h (Insert plain.0 plain.1) (judge_all index.params h 0 (Insert plain.0 plain.1 ∷ [])))
-after_long index h (Find k l vector) plain = omega arith
+pub after_long : (index : Index) (h : BasedList) (order : Order) → IsBrief order → length_of (list_after index h order) ≤ length_of h + 64
+after_long index h (Apply changes batch) brief = updated_long h changes (judge_all index.params h 0 changes) brief.1
+after_long index h (Find k l vector) brief = omega arith
 
 -- what the commands of a servable client are
-all_plain : (commands : List Command) → AllByRecursion IsPlain (map order_of commands) → All (λ command. IsPlain (order_of command)) commands
-all_plain [] plain i d within = absurd (omega arith)
-all_plain (command ∷ commands) plain zero d within = plain.0
-all_plain (command ∷ commands) plain (suc i) d within = all_plain commands plain.1 i d (omega arith)
+all_brief : (commands : List Command) → AllByRecursion IsBrief (map order_of commands) → All (λ command. IsBrief (order_of command)) commands
+all_brief [] brief i d within = absurd (omega arith)
+all_brief (command ∷ commands) brief zero d within = brief.0
+all_brief (command ∷ commands) brief (suc i) d within = all_brief commands brief.1 i d (omega arith)
 
 -- the first client of a script
 abbrev pub IsFirst : List Command → Client → Type 0
 IsFirst commands client = map order_of commands ≡ client.orders
 
-pub first_plain : (most : ℕ) (script : List Client) (commands : List Command) → 0 < length script → AllByRecursion (IsServable most) script → IfSome (slice_get script 0) (IsFirst commands) → All (λ command. IsPlain (order_of command)) commands
-first_plain most [] commands some servable is = absurd (omega arith)
-first_plain most (client ∷ others) commands some servable is = all_plain commands (subst (AllByRecursion IsPlain) (sym is) servable.0.plain)
+pub first_brief : (most : ℕ) (script : List Client) (commands : List Command) → 0 < length script → AllByRecursion (IsServable most) script → IfSome (slice_get script 0) (IsFirst commands) → All (λ command. IsBrief (order_of command)) commands
+first_brief most [] commands some servable is = absurd (omega arith)
+first_brief most (client ∷ others) commands some servable is = all_brief commands (subst (AllByRecursion IsBrief) (sym is) servable.0.brief)
 
 pub first_short : (most : ℕ) (script : List Client) (commands : List Command) → 0 < length script → AllByRecursion (IsServable most) script → IfSome (slice_get script 0) (IsFirst commands) → length commands ≤ most
 first_short most [] commands some servable is = absurd (omega arith)

@@ -1,5 +1,8 @@
+pub mod Commands
 pub mod Counts
 pub mod Living
 pub mod Serving
-mod Ends
+pub mod Sessions
+pub mod Transcribing
 pub mod Zeros
+mod Ends

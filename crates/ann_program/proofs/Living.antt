@@ -114,3 +114,17 @@ word_none index at (Some r) is = absurd cc
 pub word_some : (index at : ℕ) (o : Option Refusal) (word : UpdateWord) → Some word ≡ word_by index at o → (r : Refusal) × (o ≡ Some r) × (word ≡ word_of index r at)
 word_some index at None word is = absurd cc
 word_some index at (Some r) word is = (r, refl, cc)
+
+-- a change of an update that is accepted is accepted behind those before it
+pub judged_here : (params : Params) (h : BasedList) (changes : List Change) (i : ℕ) (c : Change) → i < length changes → c ≡ get_or changes i c → Judging params h changes i → judge_all params h 0 changes ≡ None → judge params (behind h (take i changes)) c ≡ None
+judged_here params h changes i c within is so_far none =
+    elim (judge params (behind h (take i changes)) c) as (λ (o : Option Refusal). judge params (behind h (take i changes)) c ≡ o → o ≡ None) [
+      | None ↦ λ _. refl
+      | Some refusal ↦ λ e. absurd (some_none (i, refusal) (sym (judging_stops params h changes i c refusal within is e so_far) ∙ none))
+    ] refl
+  where
+    some_none : {A : Type 0} (x : A) → Some x ≡ None → ⊥
+    some_none x e = cc
+
+pub behind_taken : (h : BasedList) (changes : List Change) (i : ℕ) (c : Change) → i < length changes → c ≡ get_or changes i c → behind h (take (i + 1) changes) ≡ with_entry (behind h (take i changes)) (entry_of 0 c)
+behind_taken h changes i c within is = ap (behind h) (taken changes i c within is) ∙ behind_more h (take i changes) c

@@ -19,5 +19,5 @@ pub record Keeps (h : BasedList) (session : Session) : Type 0 where
   pub params : session.view.params ≡ session.params
   pub book : session.view.book.book ≡ zeros session.params.d
   pub segment : session.view.segment ≡ None
-  pub open : session.view.closed ≡ false
+  pub going : session.view.closed ≡ false
   pub tags : session.tags.pids ≡ map_of (live_of h)

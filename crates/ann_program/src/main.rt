@@ -4,10 +4,12 @@
 //! and sink, calls it, and ends with its status.
 #![tactic(auto)]
 
+mod book;
 mod once;
 mod owed;
 mod run;
 mod session;
+mod standing;
 #[cfg(test)]
 mod tests;
 mod words;

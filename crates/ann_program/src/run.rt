@@ -38,6 +38,7 @@ fn line_at_fault(alloc: Global, number: u64) -> Owed
 
 /// What is owed for a script that was read.
 fn transcribed(alloc: Global, params: &Params, script: &Script) -> Owed
+    requires code { params.now.m ≡ 1 }
     requires servable { AllByRecursion (IsServable (lines_limit - 1)) script.now }
     ensures { IsDue result (Served params.now script.now) }
 {

@@ -13,6 +13,7 @@ use ann_types::{Change, Params, Pid, Tag, Vector};
 ///
 /// A change is judged behind the changes before it, of the same update. These say of each tag that they name whether it
 /// is live behind them; the others are as in the list.
+#[derive(Drop)]
 pub(crate) struct Standing<'a> {
     pub(crate) params: &'a Params,
     pub(crate) tags: &'a Tags,

@@ -1,5 +1,5 @@
 -- The map of a list of pairs: what it finds, how many tags it has, and how it follows the list of live tags.
-use Rattle.std.proofs.Common.{◌≡◌, ℕ, ◌+◌, ◌<◌, Bool, true, false, cond, eqb, ltb, not, ◌||◌, Option, Some, None, is_some, [], ◌∷◌, ◌++◌, refl, sym, ap, ◌∙◌, arith, length, ltb-true, eqb-true, eq-eqb, nat_eq}
+use Rattle.std.proofs.Common.{◌≡◌, ℕ, ◌+◌, ◌<◌, Bool, true, false, cond, eqb, ltb, not, ◌||◌, Option, Some, None, is_some, List, [], ◌∷◌, ◌++◌, refl, sym, ap, ◌∙◌, arith, length, map, filter, ltb-true, eqb-true, eq-eqb, nat_eq}
 use Rattle.std.proofs.lemmas.Bool.{or_parts, or_from}
 use Rattle.std.specs.List.{AllByRecursion, IsDistinct}
 use Rattle.std.specs.Map.{lookup, keys_of}
@@ -8,8 +8,8 @@ use Rattle.std.specs.declared.cmp.Ordering.TheVariants.{Less, Equal, Greater}
 use Rattle.std.specs.Cmp.{nat_cmp_total, nat_eq_equiv}
 use Rattle.std.specs.FinMap.{find, get, insert, remove, len, get-from_entries, get-insert, get-remove, len-insert, len-empty, same_map, nat_cmp-IsAntisymmetric}
 use Rattle.std.proofs.lemmas.Map.Keys.{IsDistinct-head, IsDistinct-tail}
-use Rattle.ann_types.specs.Lists.{Names, is_live, unmapped, mapped}
-use Rattle.ann_types.proofs.Tagged.{TagsDiffer, taken_out}
+use Rattle.ann_types.specs.Lists.{Names, is_live, unmapped, mapped, pids_at}
+use Rattle.ann_types.proofs.Tagged.{TagsDiffer, taken_out, pids_at_one}
 use Rattle.ann_tags.specs.Tags.{Pids, map_of}
 
 -- ---- tests of tags
@@ -161,3 +161,34 @@ pub found_remove : (pids : Pids) (tag q : ℕ) → is_some (get (remove pids tag
 found_remove pids tag q =
     ap is_some (get-remove nat_cmp_total pids tag q ∙ ap (λ b. cond b None (get pids q)) (test_flips q tag))
     ∙ elim (nat_eq tag q) as (λ b. is_some (cond b None (get pids q)) ≡ cond b false (is_some (get pids q))) [ true ↦ refl | false ↦ refl ]
+
+-- ---- the Pid of a live tag
+
+abbrev first_of : List ℕ → Option ℕ
+first_of [] = None
+first_of (x ∷ xs) = Some x
+
+first_pid : (es : Names) (tag : ℕ) → lookup (nat_eq tag) es ≡ first_of (pids_at es tag)
+first_pid [] tag = refl
+first_pid (e ∷ es) tag =
+    ap (λ b. cond b (Some e.1) (lookup (nat_eq tag) es)) (flip tag e.0)
+    ∙ elim (eqb e.0 tag) as (λ b. cond b (Some e.1) (lookup (nat_eq tag) es) ≡ first_of (map (λ (x : ℕ × ℕ). x.1) (cond b (e ∷ filter (λ (x : ℕ × ℕ). eqb x.0 tag) es) (filter (λ (x : ℕ × ℕ). eqb x.0 tag) es)))) [ true ↦ refl | false ↦ first_pid es tag ]
+
+is_first : (x y : ℕ) (o : Option ℕ) → o ≡ Some x → o ≡ Some y → y ≡ x
+is_first x y o e f = cc
+
+
+
+
+-- a tag that is found has that one Pid
+pub pids_found : (live : Names) (tag pid : ℕ) → TagsDiffer live → get (map_of live) tag ≡ Some pid → pids_at live tag ≡ pid ∷ []
+pids_found live tag pid differ found =
+    let one = pids_at_one live tag differ (live_is live tag ∙ ap is_some found) in
+    one.1 ∙ ap (λ p. p ∷ []) (is_first pid one.0 (get (map_of live) tag) found (get_is tag live ∙ first_pid live tag ∙ ap first_of one.1))
+
+pub found_none : (live : Names) (tag : ℕ) → is_live live tag ≡ false → get (map_of live) tag ≡ None
+found_none live tag none = none_of (get (map_of live) tag) (sym (live_is live tag) ∙ none)
+  where
+    none_of : (o : Option ℕ) → is_some o ≡ false → o ≡ None
+    none_of None e = refl
+    none_of (Some x) e = absurd cc

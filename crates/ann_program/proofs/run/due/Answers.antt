@@ -5,7 +5,7 @@ use Rattle.ann_program.proofs.Ends.{owed_for, finds_fault, is_cut, due_number}
 use Rattle.ann_program.proofs.run.due.Goals as goal
 
 abbrev pub transcribed-requires : goal.transcribed-requires
-transcribed-requires g c = record { servable = script_servable 1 c.in-Ok.ensures.reads.bytes c.in-Ok.script c.in-Ok.ensures.reads.says }
+transcribed-requires g c = record { code = c.in-Some.ensures.once.made.code; servable = script_servable 1 c.in-Ok.ensures.reads.bytes c.in-Ok.script c.in-Ok.ensures.reads.says }
 
 abbrev pub returns-in-Ok-clause-is : goal.returns-in-Ok-clause-is
 returns-in-Ok-clause-is g c = owed_for _ _ _ (Served c.in-Some.params c.in-Ok.script) c.transcribed.result (c.in-Some.ensures.once, c.in-Ok.ensures.reads) c.transcribed.ensures
