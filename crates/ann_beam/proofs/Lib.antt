@@ -1,1 +1,2 @@
 pub mod Rankings
+pub mod Choosing

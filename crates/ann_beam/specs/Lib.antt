@@ -1,2 +1,4 @@
 pub mod Ranking
 pub mod Desk
+pub mod Reads
+pub mod Visits
