@@ -26,18 +26,22 @@ block_at bytes block = slice_range bytes (4096 * block) (4096 * block + 4096)
 abbrev pub node_in : {S : Type 0} → SegmentView S → List ℕ → ℕ → ℕ → NodeFields
 node_in segment bytes d row = node_of d (block_at bytes (node_block segment row))
 
+-- the neighbours of a row of a segment with these bytes
+abbrev pub links_in : {S : Type 0} → SegmentView S → List ℕ → ℕ → ℕ → List ℕ
+links_in segment bytes d row = (node_in segment bytes d row).neighbours
+
 -- what rounds see of a segment with these bytes, from a row
 abbrev pub ground_in : {S : Type 0} → SegmentView S → List ℕ → ℕ → List (List ℕ) → ℕ → Ground
 ground_in segment bytes d tables entry =
-    record { entry = entry; links = λ row. (node_in segment bytes d row).neighbours; far = far_row tables segment.items }
+    record { entry = entry; links = links_in segment bytes d; far = far_row tables segment.items }
 
 -- a row's point at its exact distance
 abbrev pub point_of : List Item → List ℕ → ℕ → NodeFields → Ranked
 point_of items query row node = record { pid = (item_of items row).0; tag = node.tag; distance = distance query node.vector }
 
--- the points in rows of a segment with these bytes, at their exact distances
-abbrev pub points_in : {S : Type 0} → SegmentView S → List ℕ → ℕ → List ℕ → List ℕ → List Ranked
-points_in segment bytes d query rows = map (λ row. point_of segment.items query row (node_in segment bytes d row)) rows
+-- the point in a row of a segment with these bytes, at its exact distance
+abbrev pub point_in : {S : Type 0} → SegmentView S → List ℕ → ℕ → List ℕ → ℕ → Ranked
+point_in segment bytes d query row = point_of segment.items query row (node_in segment bytes d row)
 
 -- those of the points that aren't deleted
 abbrev pub alive : List ℕ → List Ranked → List Ranked

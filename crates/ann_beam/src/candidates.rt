@@ -57,7 +57,7 @@ pub(crate) fn meet<S: Sealed>(
 pub(crate) fn choose(guided: &mut Pool, w: usize, rows: &mut [u32]) -> usize
     requires room { w ≤ length rows.old }
     ensures size { length rows.new ≡ length rows.old }
-    ensures few { result ≤ w }
+    ensures few { (result ≤ w) × (result ≤ length rows.new) }
     ensures limit { guided.new.limit ≡ guided.old.limit }
     ensures far { (far : ℕ → ℕ) → AreFar far guided.old.items → AreFar far guided.new.items }
     ensures rows { (count : ℕ) → AreRows count guided.old.items → AreRows count guided.new.items }

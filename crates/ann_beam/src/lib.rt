@@ -10,6 +10,7 @@ mod desk;
 mod rank;
 mod ranking;
 mod refused;
+mod rounds;
 mod visit;
 
 pub use desk::Desk;

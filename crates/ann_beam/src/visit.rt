@@ -1,4 +1,4 @@
-ghost use Rattle.std.specs.Prelude.{◌≡◌, ◌≤◌, ◌<◌, ◌≢◌, ◌⊎◌, ℕ, List, All, [], ◌∷◌, None, length, map, flat_map, IfErr, OnOk, IsErrOf};
+ghost use Rattle.std.specs.Prelude.{◌≡◌, ◌≤◌, ◌<◌, ◌⊎◌, ℕ, suc, List, All, [], ◌∷◌, length, flat_map, IfErr, OnOk};
 ghost use Rattle.ann_types.specs.Order.{all_placed};
 ghost use Rattle.ann_greedy.specs.Shows.{AreFar, AreRows, Shows};
 ghost use Rattle.ann_block.specs.Node.{node_of};
@@ -7,7 +7,9 @@ ghost use Rattle.ann_segment.specs.Segment.{node_block};
 ghost use Rattle.ann_vault.specs.Causes.{Rose, next_count};
 ghost use Rattle.ann_beam.specs.Ranking.{with_all};
 ghost use Rattle.ann_beam.specs.Reads.{more_reads};
-ghost use Rattle.ann_beam.specs.Visits.{IsBadNode, alive, block_at, far_row, node_in, point_of, points_in};
+ghost use Rattle.ann_beam.specs.Visits.{IsBadNode, alive, block_at, far_row, links_in, point_in, point_of};
+ghost use Rattle.ann_beam.specs.Progress.{HasVisited};
+ghost use Rattle.ann_beam.specs.Desk.{progress};
 ghost use Rattle.ann_beam.specs.declared.refused.SearchRefused.TheVariants.{BadSegment, Disk};
 
 use crate::candidates::meet;
@@ -63,4 +65,41 @@ pub(crate) fn visit<S: Sealed, E: Eye<Seal = S>, D: Deleted>(
         }
         Err(_) => Err(SearchRefused::BadSegment { block }),
     }
+}
+
+/// Visits rows in turn.
+pub(crate) fn visit_all<S: Sealed, E: Eye<Seal = S>, D: Deleted>(
+    segment: &Segment<S>,
+    eye: &mut E,
+    desk: &mut Desk,
+    query: &[u8],
+    params: &Params,
+    dead: &D,
+    rows: &[u32],
+) -> Result<(), SearchRefused>
+    requires inside { All (λ row. row < length segment.now.items) rows.now }
+    requires width { length query.now ≡ params.now.d }
+    requires code { segment.now.m ≡ length desk.old.tables }
+    requires far { AreFar (far_row desk.old.tables segment.now.items) desk.old.guided.items }
+    requires rows { AreRows (length segment.now.items) desk.old.guided.items }
+    ensures tables { desk.new.tables ≡ desk.old.tables }
+    ensures width { desk.new.guided.limit ≡ desk.old.guided.limit }
+    ensures limit { desk.new.ranking.limit ≡ desk.old.ranking.limit }
+    ensures far { AreFar (far_row desk.old.tables segment.now.items) desk.new.guided.items }
+    ensures rows { AreRows (length segment.now.items) desk.new.guided.items }
+    // What is sealed is ranked, and its neighbours are met.
+    ensures shows { S.tells → OnOk result ((visited order : List ℕ) → Shows (far_row desk.old.tables segment.now.items) visited order desk.old.guided → Shows (far_row desk.old.tables segment.now.items) visited (all_placed (far_row desk.old.tables segment.now.items) order (flat_map (links_in segment.now (S.bytes segment.now.seal) params.now.d) rows.now)) desk.new.guided) }
+    ensures visits { S.tells → OnOk result (HasVisited desk.old.ranking.limit (D.pids dead.now) (point_in segment.now (S.bytes segment.now.seal) params.now.d query.now) rows.now (progress desk.old (E.reads eye.old)) (progress desk.new (E.reads eye.new))) }
+    ensures refused { IfErr result (λ why. (why ≡ Disk) ⊎ ((block : ℕ) × (why ≡ BadSegment block))) }
+    ensures bad { IfErr result (λ why. (block : ℕ) → why ≡ BadSegment block → IsBadNode segment.now params.now desk.new.page block) }
+    ensures bad_told { S.tells → IfErr result (λ why. (block : ℕ) → why ≡ BadSegment block → desk.new.page ≡ block_at (S.bytes segment.now.seal) block) }
+    ensures bad_counted { IfErr result (λ why. (block : ℕ) → why ≡ BadSegment block → (n : ℕ) × (E.reads eye.new ≡ more_reads (suc n) (E.reads eye.old))) }
+    ensures counted { (n : ℕ) × (E.reads eye.new ≡ more_reads n (E.reads eye.old)) }
+    ensures disk { IfErr result (λ why. why ≡ Disk → Rose (E.faults eye.old) (E.faults eye.new)) }
+    ensures later { E.faults eye.old ≤ E.faults eye.new }
+{
+    for row in rows {
+        visit(segment, eye, desk, query, params, dead, *row)?;
+    }
+    Ok(())
 }
