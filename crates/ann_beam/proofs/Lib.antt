@@ -1,1 +1,3 @@
 pub mod Rankings
+pub mod Choosing
+pub mod Rounding
