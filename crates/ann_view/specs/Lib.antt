@@ -3,4 +3,5 @@ pub mod View
 pub mod Pinned
 pub mod Steps
 pub mod Stands
+pub mod Holding
 pub mod Search

@@ -13,7 +13,8 @@ ghost use Rattle.ann_view.specs.Temp.{IsTemp};
 ghost use Rattle.ann_view.specs.View.{Shown, IsView};
 ghost use Rattle.ann_view.specs.Pinned.{pinned};
 ghost use Rattle.ann_view.specs.Steps.{applied, with_entry_more, with_point_more, with_segment, ended, FitsIn, MayEnd, MayApply};
-ghost use Rattle.ann_view.specs.Stands.{StandsFor, IsEntryOf};
+ghost use Rattle.ann_view.specs.Stands.{StandsFor, IsEntryOf, lti_of};
+ghost use Rattle.ann_view.specs.Holding.{HoldsGraph, BringsMerge};
 
 use crate::op::Op;
 use crate::pinned::Pinned;
@@ -108,6 +109,10 @@ impl<S: Sealed> View<S> {
 
         // A view that stands for a list stands for the list with the entry.
         ensures stands { (h : BasedList) (entry : Entry) → StandsFor self.old h → IsEntryOf h op.now entry → OnOk result (StandsFor self.new (with_entry h entry)) }
+
+        // Where its segment holds the list's long-term graph, and an End's segment the one that the merge makes, the new
+        // segment holds the new list's.
+        ensures holds { (h : BasedList) (entry : Entry) → StandsFor self.old h → IsEntryOf h op.now entry → HoldsGraph S.bytes self.old (lti_of self.old h) → BringsMerge S.bytes self.old h op.now → OnOk result (HoldsGraph S.bytes self.new (lti_of self.new (with_entry h entry))) }
     {
         self.step(op)?;
         Ok(())
