@@ -4,4 +4,5 @@ pub mod Pinned
 pub mod Steps
 pub mod Stands
 pub mod Holding
+pub mod Near
 pub mod Search
