@@ -113,7 +113,8 @@ pub names_back : (points : List Point) (links : List ℕ) → Rises (pids_of poi
 names_back points [] rises inside = refl
 names_back points (x ∷ links) rises (h, inside) = ap₂ ◌∷◌ (has_row points x rises h).back (names_back points links rises inside)
 
-below_mapped : (points : List Point) (links : List ℕ) → Rises (pids_of points) → AllByRecursion (λ p. has (pids_of points) p ≡ true) links → Below (length points) (map (row_of points) links)
+-- rows of Pids of the graph are rows of it
+pub below_mapped : (points : List Point) (links : List ℕ) → Rises (pids_of points) → AllByRecursion (λ p. has (pids_of points) p ≡ true) links → Below (length points) (map (row_of points) links)
 below_mapped points links rises inside = all_mapped (λ p. has (pids_of points) p ≡ true) (λ r. r < length points) (row_of points) links (λ p h. (has_row points p rises h).below) inside
 
 -- what stands in a row as a node is in the format
