@@ -11,8 +11,10 @@ mod rank;
 mod ranking;
 mod refused;
 mod rounds;
+mod search;
 mod visit;
 
 pub use desk::Desk;
 pub use ranking::Ranking;
 pub use refused::SearchRefused;
+pub use search::beam;
