@@ -1,1 +1,4 @@
 pub mod Rankings
+pub mod Choosing
+pub mod Rounding
+pub mod Beams

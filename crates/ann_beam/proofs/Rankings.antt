@@ -1,11 +1,12 @@
 -- Pids and hits side by side, and the place of a point among them.
-use Rattle.std.proofs.Common.{◌≡◌, ℕ, zero, suc, ◌+◌, ◌≤◌, ◌<◌, Bool, true, false, cond, eqb, List, [], ◌∷◌, ◌++◌, ◌||◌, refl, sym, ap, ◌∙◌, subst, arith, take, drop, map, length, get_or, add-one}
+use Rattle.std.proofs.Common.{◌≡◌, ℕ, zero, suc, ◌+◌, ◌≤◌, ◌<◌, Bool, true, false, cond, eqb, List, [], ◌∷◌, ◌++◌, ◌||◌, refl, sym, ap, ◌∙◌, subst, arith, take, drop, map, length, get_or, add-one, eqb-true, eq-eqb}
 use Rattle.std.specs.Prelude.{insert}
 use Rattle.std.proofs.lemmas.List.{take-map}
-use Rattle.std.proofs.lemmas.Bool.{false≢true, false_from_ne_true}
+use Rattle.std.proofs.lemmas.Bool.{false≢true, ne_eqb, both_ways, false_from_ne_true}
 use Rattle.ann_types.specs.declared.hit.Hit.{Hit}
 use Rattle.ann_types.specs.Order.{before, has, placed, all_placed, in_order, top}
 use Rattle.ann_types.proofs.Ordered.{cut_placed, all_placed-append, has_placed, has_in_order, has_from_take}
+use Rattle.ann_dead.specs.Pids.{has as is_dead}
 use Rattle.ann_beam.specs.Ranking.{Ranked, hit_of, joined, nearer, rank, ranked, with_all, with_ranked}
 
 pub length-joined : (pids : List ℕ) (hits : List Hit) → length pids ≡ length hits → length (joined pids hits) ≡ length hits
@@ -138,3 +139,16 @@ all_ranked far tag n pids more a =
 pub with_all-append : (n : ℕ) (xs ys s : List Ranked) → with_all n (xs ++ ys) s ≡ with_all n ys (with_all n xs s)
 with_all-append n [] ys s = refl
 with_all-append n (x ∷ xs) ys s = with_all-append n xs ys (with_ranked n x s)
+
+-- ---- deleted points
+
+-- a Pid of a delete list, as that list and as a set of points
+pub dead_has : (dead : List ℕ) (pid : ℕ) → is_dead dead pid ≡ has dead pid
+dead_has [] pid = refl
+dead_has (x ∷ dead) pid = ap (λ t. t || is_dead dead pid) (turned x pid) ∙ ap (λ t. eqb pid x || t) (dead_has dead pid)
+  where
+    turned : (x y : ℕ) → eqb x y ≡ eqb y x
+    turned x y = elim (eqb x y) as (λ t. eqb x y ≡ t → t ≡ eqb y x) [
+      | true ↦ λ e. sym (eq-eqb y x (sym (eqb-true x y e)))
+      | false ↦ λ e. sym (ne_eqb y x (λ s. both_ways (eqb x y) e (eq-eqb x y (sym s))))
+    ] refl

@@ -1,2 +1,5 @@
 pub mod Ranking
+pub mod Reads
+pub mod Visits
+pub mod Progress
 pub mod Desk

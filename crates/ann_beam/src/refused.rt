@@ -1,3 +1,7 @@
+ghost use Rattle.std.specs.Prelude.{◌≡◌};
+ghost use Rattle.ann_beam.specs.declared.refused.SearchRefused.TheVariants.{Disk};
+
+use ann_vault::Failed;
 use thiserror::Error;
 
 /// Why a search gives no answer.
@@ -15,4 +19,12 @@ pub enum SearchRefused {
     /// The view of the index let nobody in.
     #[error("the index is shut")]
     Shut,
+}
+
+impl From<Failed> for SearchRefused {
+    ghost from_gives = { λ _ e. e ≡ Disk };
+
+    fn from(_failed: Failed) -> Self {
+        SearchRefused::Disk
+    }
 }

@@ -184,9 +184,9 @@ impl<S: Sealed> Segment<S> {
         }
     }
 
-    // Where the node block of a row stands among the blocks.
+    /// Where the node block of a row stands among the blocks; a block has 4096 bytes.
     #[tactic(auto, unfolding(crate::specs::Opening::segment_length))]
-    fn node_block(&self, row: u32) -> u64
+    pub fn node_block(&self, row: u32) -> u64
         requires { row < length self.now.items }
         ensures value { result ≡ node_block self.now row }
         ensures within { S.tells → 4096 * result + 4096 ≤ length (S.bytes self.now.seal) }

@@ -159,3 +159,8 @@ pub resumed_below : (items : List Item) (next : ℕ) → All (λ (x : Item). x.0
 resumed_below items next a =
     subst (All (λ pid. pid < next)) (sym (append-nil (item_pids items)))
     (All-from_recursion (λ pid. pid < next) (item_pids items) (all_map (λ pid. pid < next) (λ (x : Item). x.0) items (recursion_from_All (λ (x : Item). x.0 < next) items a)))
+
+pub memory_rising : {S : Type 0} (view : Shown S) → IsView view → IsStrictlyIncreasing (pids_of (all_points view.memory))
+memory_rising view w =
+    let own : List ℕ = pids_of (all_points view.memory) in
+    increasing_from_rises own (rises_right (segment_pids view.segment) own (rises_from_increasing (pids_in view.segment view.memory) w.rising))

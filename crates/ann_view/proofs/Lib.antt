@@ -3,3 +3,7 @@ pub mod Deletes
 pub mod Inserts
 pub mod Ages
 pub mod Standing
+pub mod Nearest
+pub mod Distinct
+pub mod Agrees
+pub mod Joined

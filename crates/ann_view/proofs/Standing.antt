@@ -11,9 +11,14 @@ use Rattle.ann_types.specs.declared.params.Params.{Params}
 use Rattle.ann_types.specs.declared.entry.Entry.{Entry}
 use Rattle.ann_types.specs.declared.entry.Entry.TheVariants.{Insert as InsertEntry, Delete as DeleteEntry, Begin as BeginEntry, End as EndEntry, Replace as ReplaceEntry}
 use Rattle.ann_types.proofs.Folds.{next_pid_push, fold_push}
+use Rattle.ann_segment.specs.Segment.{SegmentView}
+use Rattle.ann_segment.specs.Holds.{Holds}
+use Rattle.std.specs.declared.sync.Arc.{Arc}
+use Rattle.std.specs.declared.alloc.Global.{Global}
 use Rattle.ann_view.specs.View.{Shown, index_of, whole}
 use Rattle.ann_view.specs.Steps.{applied}
 use Rattle.ann_view.specs.Stands.{StandsFor, IsEntryOf, lti_of}
+use Rattle.ann_view.specs.Holding.{HoldsIn, HoldsGraph, BringsMerge}
 use Rattle.ann_view.specs.declared.op.Op.{Op}
 use Rattle.ann_view.specs.declared.op.Op.TheVariants.{Insert, Delete, Replace, Begin, End, Close}
 
@@ -30,9 +35,9 @@ inserted_over params s lti n tag vector =
 begun_over : (s : State) (lti : Graph) (at : ℕ) → begun_at (over s lti) at ≡ over (begun_at s at) lti
 begun_over s lti at = elim (is_empty s.rw) as (λ t. opened (cond t (over s lti) (frozen (over s lti) s.rw)) at ≡ over (opened (cond t s (frozen s s.rw)) at) lti) [ true ↦ refl | false ↦ refl ]
 
-switched_over : (s : State) (lti new : Graph) (o : Option Begun) → (end : Graph) × (switched (over s lti) new o ≡ over (switched s empty_graph o) end)
-switched_over s lti new None = (lti, refl)
-switched_over s lti new (Some b) = (new, refl)
+switched_over : (index : Index) (s : State) (lti : Graph) (o : Option Begun) → switched (over s lti) (merge_of index (over s lti) o) o ≡ over (switched s empty_graph o) (merge_of index (over s lti) o)
+switched_over index s lti None = refl
+switched_over index s lti (Some b) = refl
 
 -- ---- lists with one entry more
 
@@ -65,27 +70,61 @@ module _ {S : Type 0} (view : Shown S) (h : BasedList) (w : StandsFor view h) wh
   none_more : view.next ≡ view.next + 0
   none_more = omega arith
 
+  -- what each step makes of the state
+  insert_is : (by tag : ℕ) (vector : List ℕ) → step index h (whole view lti) (InsertEntry by tag vector) ≡ over (applied view (Insert tag vector)).memory lti
+  insert_is by tag vector =
+      ap (λ n. inserted view.params (whole view lti) n tag vector) (sym w.next) ∙ inserted_over view.params view.memory lti view.next tag vector
+
+  delete_is : (by tag pid : ℕ) → pids_at (live_of h) tag ≡ pid ∷ [] → step index h (whole view lti) (DeleteEntry by tag) ≡ over (applied view (Delete pid)).memory lti
+  delete_is by tag pid at = ap (deleted (whole view lti)) at
+
+  replace_is : (by tag gone : ℕ) (vector : List ℕ) → pids_at (live_of h) tag ≡ gone ∷ [] → step index h (whole view lti) (ReplaceEntry by tag vector) ≡ over (applied view (Replace tag gone vector)).memory lti
+  replace_is by tag gone vector at =
+      ap (λ (ps : List ℕ). inserted view.params (deleted (whole view lti) ps) (next_pid h) tag vector) at
+      ∙ ap (λ n. inserted view.params (deleted (whole view lti) (gone ∷ [])) n tag vector) (sym w.next)
+      ∙ inserted_over view.params (deleted view.memory (gone ∷ [])) lti view.next tag vector
+
+  begin_is : (by : ℕ) → step index h (whole view lti) (BeginEntry by) ≡ over (applied view Begin).memory lti
+  begin_is by = ap (begun_at (whole view lti)) (sym w.at) ∙ begun_over view.memory lti view.at
+
+  -- the graph that the open merge makes
+  abbrev made : Graph
+  made = merge_of index (whole view lti) view.memory.begun
+
+  end_is : (by : ℕ) (segment : Arc (SegmentView S) Global) → step index h (whole view lti) (EndEntry by segment.value.number) ≡ over (applied view (End segment)).memory made
+  end_is by segment = switched_over index view.memory lti view.memory.begun
+
   pub stands_after : (op : Op S) (e : Entry) → IsEntryOf h op e → StandsFor (applied view op) (with_entry h e)
   stands_after (Insert tag vector) e (by, is) =
       subst (λ (t : Entry). StandsFor (applied view (Insert tag vector)) (with_entry h t)) (sym is)
-      (stands_with (InsertEntry by tag vector) (applied view (Insert tag vector)) lti 1 refl refl refl refl
-      (ap (λ n. inserted view.params (whole view lti) n tag vector) (sym w.next) ∙ inserted_over view.params view.memory lti view.next tag vector))
+      (stands_with (InsertEntry by tag vector) (applied view (Insert tag vector)) lti 1 refl refl refl refl (insert_is by tag vector))
   stands_after (Delete pid) e (by, tag, is, at) =
       subst (λ (t : Entry). StandsFor (applied view (Delete pid)) (with_entry h t)) (sym is)
-      (stands_with (DeleteEntry by tag) (applied view (Delete pid)) lti 0 refl refl none_more refl
-      (ap (deleted (whole view lti)) at))
+      (stands_with (DeleteEntry by tag) (applied view (Delete pid)) lti 0 refl refl none_more refl (delete_is by tag pid at))
   stands_after (Replace tag gone vector) e (by, is, at) =
       subst (λ (t : Entry). StandsFor (applied view (Replace tag gone vector)) (with_entry h t)) (sym is)
-      (stands_with (ReplaceEntry by tag vector) (applied view (Replace tag gone vector)) lti 1 refl refl refl refl
-      (ap (λ (ps : List ℕ). inserted view.params (deleted (whole view lti) ps) (next_pid h) tag vector) at
-      ∙ ap (λ n. inserted view.params (deleted (whole view lti) (gone ∷ [])) n tag vector) (sym w.next)
-      ∙ inserted_over view.params (deleted view.memory (gone ∷ [])) lti view.next tag vector))
+      (stands_with (ReplaceEntry by tag vector) (applied view (Replace tag gone vector)) lti 1 refl refl refl refl (replace_is by tag gone vector at))
   stands_after Begin e (by, is) =
       subst (λ (t : Entry). StandsFor (applied view Begin) (with_entry h t)) (sym is)
-      (stands_with (BeginEntry by) (applied view Begin) lti 0 refl refl none_more refl
-      (ap (begun_at (whole view lti)) (sym w.at) ∙ begun_over view.memory lti view.at))
+      (stands_with (BeginEntry by) (applied view Begin) lti 0 refl refl none_more refl (begin_is by))
   stands_after (End segment) e (by, is) =
-      let end = switched_over view.memory lti (merge_of index (whole view lti) view.memory.begun) view.memory.begun in
       subst (λ (t : Entry). StandsFor (applied view (End segment)) (with_entry h t)) (sym is)
-      (stands_with (EndEntry by segment.value.number) (applied view (End segment)) end.0 0 refl refl none_more refl end.1)
+      (stands_with (EndEntry by segment.value.number) (applied view (End segment)) made 0 refl refl none_more refl (end_is by segment))
   stands_after Close e none = absurd none
+
+  -- ---- the long-term graph
+
+  lti_with : (bytes : S → List ℕ) (e e' : Entry) (memory : State) (segment : Option (SegmentView S)) (end : Graph) → e ≡ e' → step index h (whole view lti) e' ≡ over memory end → HoldsIn bytes view.params view.book.book segment end → HoldsIn bytes view.params view.book.book segment (fold_of index (with_entry h e)).lti
+  lti_with bytes e e' memory segment end same is holds =
+      subst (HoldsIn bytes view.params view.book.book segment)
+      (sym (ap (λ (t : Entry). (fold_of index (with_entry h t)).lti) same ∙ ap (λ (s : State). s.lti) (fold_push index h e' ∙ ap (λ (s : State). step index h s e') w.state ∙ is))) holds
+
+  pub holds_after : (bytes : S → List ℕ) (op : Op S) (e : Entry) → IsEntryOf h op e → HoldsGraph bytes view lti → BringsMerge bytes view h op → HoldsGraph bytes (applied view op) (lti_of (applied view op) (with_entry h e))
+  holds_after bytes (Insert tag vector) e (by, is) holds brings = lti_with bytes e (InsertEntry by tag vector) (applied view (Insert tag vector)).memory view.segment lti is (insert_is by tag vector) holds
+  holds_after bytes (Delete pid) e (by, tag, is, at) holds brings = lti_with bytes e (DeleteEntry by tag) (applied view (Delete pid)).memory view.segment lti is (delete_is by tag pid at) holds
+  holds_after bytes (Replace tag gone vector) e (by, is, at) holds brings = lti_with bytes e (ReplaceEntry by tag vector) (applied view (Replace tag gone vector)).memory view.segment lti is (replace_is by tag gone vector at) holds
+  holds_after bytes Begin e (by, is) holds brings = lti_with bytes e (BeginEntry by) (applied view Begin).memory view.segment lti is (begin_is by) holds
+  holds_after bytes (End segment) e (by, is) holds brings =
+      lti_with bytes e (EndEntry by segment.value.number) (applied view (End segment)).memory (Some segment.value) made is (end_is by segment)
+      (subst (λ (s : State). Holds view.params view.book.book (bytes segment.value.seal) segment.value (merge_of index s s.begun)) w.state brings)
+  holds_after bytes Close e none holds brings = absurd none

@@ -1,12 +1,16 @@
 // The search of the graphs in memory.
-ghost use Rattle.std.specs.Prelude.{◌≡◌, ◌<◌, ℕ, List, length, map, IfOk};
-ghost use Rattle.ann_types.specs.Graph.{far_from, tag_of, near_to};
-ghost use Rattle.ann_types.specs.Merge.{without};
+ghost use Rattle.std.specs.Prelude.{◌≡◌, ◌<◌, ◌∷◌, [], ℕ, List, All, length, map};
+ghost use Rattle.std.specs.Arc.{arc_value};
+ghost use Rattle.std.specs.List.{AllByRecursion, flat_map};
+ghost use Rattle.ann_types.specs.declared.params.Params.{Params};
+ghost use Rattle.ann_greedy.specs.Shows.{AreRows};
 ghost use Rattle.ann_table.specs.Node.{Node, node_at, row_pid, rows_of, graph_of};
 ghost use Rattle.ann_table.specs.Table.{AreNodes};
-ghost use Rattle.ann_types.specs.declared.params.Params.{Params};
-ghost use Rattle.ann_beam.specs.Desk.{result_of, page_of};
-ghost use Rattle.ann_beam.specs.Ranking.{rank, with_all};
+ghost use Rattle.ann_frozen.specs.Frozen.{Shown as FrozenShown};
+ghost use Rattle.ann_beam.specs.Desk.{result_of};
+ghost use Rattle.ann_beam.specs.Ranking.{with_all};
+ghost use Rattle.ann_beam.specs.Visits.{alive};
+ghost use Rattle.ann_view.specs.Near.{row_point, near_points, AreInside};
 
 use ann_beam::Desk;
 use ann_dead::Dead;
@@ -15,6 +19,7 @@ use ann_greedy::{Graph, walk};
 use ann_pool::Item;
 use ann_table::Table;
 use ann_types::{Ask, Pid, Tag};
+use std::sync::Arc;
 
 /// A graph in memory whose rows have Pids and tags.
 pub(crate) trait Named: Graph {
@@ -69,5 +74,57 @@ impl Named for Frozen {
 
     fn known(&self) {
         Frozen::known(self);
+    }
+}
+
+/// Adds a point of a walk to the desk's result, unless it is deleted.
+fn add_item<G: Named>(graph: &G, dead: &Dead, desk: &mut Desk, item: Item)
+    requires { item.number < length (G.nodes graph.now) }
+    ensures limit { (result_of desk.new).limit ≡ (result_of desk.old).limit }
+    ensures points { (result_of desk.new).points ≡ with_all (result_of desk.old).limit (alive dead.now (row_point (G.nodes graph.now) item ∷ [])) (result_of desk.old).points }
+    ensures pool { desk.new.pool ≡ desk.old.pool }
+{
+    let pid = graph.pid(item.number);
+    if !dead.contains(pid) {
+        desk.add(pid, graph.tag(item.number), item.distance);
+    }
+}
+
+/// Adds the points of a walk to the desk's result, without those that are deleted.
+fn add_items<G: Named>(graph: &G, dead: &Dead, desk: &mut Desk)
+    requires { AreRows (length (G.nodes graph.now)) desk.old.pool.items }
+    ensures limit { (result_of desk.new).limit ≡ (result_of desk.old).limit }
+    ensures points { (result_of desk.new).points ≡ with_all (result_of desk.old).limit (alive dead.now (map (row_point (G.nodes graph.now)) desk.old.pool.items)) (result_of desk.old).points }
+{
+    for place in 0..desk.pool.items().len() {
+        let item = desk.pool.items()[place];
+        add_item(graph, dead, desk, item);
+    }
+}
+
+/// Walks a graph, and adds the points near the query to the desk's result. Deleted points take their places among those
+/// near, and are left out afterwards (FreshDiskANN, section 4.2).
+pub(crate) fn add_near<G: Named>(graph: &G, dead: &Dead, desk: &mut Desk, ask: &Ask)
+    requires { length ask.now.vector ≡ (G.params graph.now).d }
+    ensures limit { (result_of desk.new).limit ≡ (result_of desk.old).limit }
+    ensures points { (result_of desk.new).points ≡ with_all (result_of desk.old).limit (near_points dead.now (graph_of (G.nodes graph.now)) ask.now.vector ask.now.l) (result_of desk.old).points }
+    ensures inside { AreInside ask.now.vector ask.now.l (graph_of (G.nodes graph.now)) }
+{
+    graph.known();
+    desk.pool.clear(ask.l);
+    walk(graph, ask.vector.bytes(), &mut desk.pool);
+    add_items(graph, dead, desk);
+}
+
+/// The same of each of some frozen graphs.
+pub(crate) fn add_near_frozen(graphs: &[Arc<Frozen>], dead: &Dead, desk: &mut Desk, ask: &Ask)
+    requires { AllByRecursion (λ (f : FrozenShown). length ask.now.vector ≡ f.params.d) (map arc_value graphs.now) }
+    ensures limit { (result_of desk.new).limit ≡ (result_of desk.old).limit }
+    ensures points { (result_of desk.new).points ≡ with_all (result_of desk.old).limit (flat_map (λ (f : FrozenShown). near_points dead.now (graph_of f.nodes) ask.now.vector ask.now.l) (map arc_value graphs.now)) (result_of desk.old).points }
+    ensures inside { AllByRecursion (λ (f : FrozenShown). AreInside ask.now.vector ask.now.l (graph_of f.nodes)) (map arc_value graphs.now) }
+{
+    for graph in graphs {
+        let frozen: &Frozen = graph;
+        add_near(frozen, dead, desk, ask);
     }
 }

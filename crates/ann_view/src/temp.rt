@@ -1,20 +1,25 @@
 ghost use Rattle.std.specs.Prelude.{◌≡◌, ◌<◌, ◌∷◌, ◌&&◌, [], length, All, IsSome, IfOk, OnOk, OnErr, is_none, map, take, MatchOption, ◌+◌, if◌then◌else◌};
 ghost use Rattle.std.specs.Arc.{arc_value};
-ghost use Rattle.ann_types.specs.Graph.{Point, empty_graph, is_empty};
-ghost use Rattle.ann_types.specs.Fold.{inserted, deleted, frozen, begun_at, switched, start};
+ghost use Rattle.std.specs.List.Sorted.{IsStrictlyIncreasing};
+ghost use Rattle.ann_types.specs.Graph.{Point, empty_graph, is_empty, pids_of};
+ghost use Rattle.ann_types.specs.Fold.{inserted, deleted, frozen, begun_at, switched, start, all_points};
 ghost use Rattle.ann_types.specs.Legal.{has_work};
 ghost use Rattle.ann_table.specs.Node.{graph_of};
 ghost use Rattle.ann_frozen.specs.Frozen.{Shown as FrozenShown};
+ghost use Rattle.ann_beam.specs.Desk.{result_of};
 ghost use Rattle.ann_view.specs.Temp.{IsTemp};
+ghost use Rattle.ann_view.specs.Search.{near_result};
 
 use crate::frozen_list::FrozenList;
+use crate::near::{add_near, add_near_frozen};
 use crate::open_merge::OpenMerge;
+use ann_beam::Desk;
 use ann_dead::{Dead, DeadPin};
 use ann_frozen::Frozen;
 use ann_greedy::Graph;
 use ann_insert::{PutScratch, put};
 use ann_table::Table;
-use ann_types::{Params, Pid, Tag};
+use ann_types::{Ask, Params, Pid, Tag};
 use std::alloc::{AllocError, Global};
 use std::marker::Model;
 use std::sync::Arc;
@@ -234,5 +239,17 @@ impl TempIndex {
             dead: self.dead.copy()?,
             begun,
         })
+    }
+
+    /// Leaves in the desk's result, which is empty and has the ask's limit, the nearest live points of the graphs in
+    /// memory. Takes no memory.
+    pub(crate) fn near(&self, desk: &mut Desk, ask: &Ask)
+        requires width { length ask.now.vector ≡ self.now.params.d }
+        requires ages { IsStrictlyIncreasing (pids_of (all_points self.now.state)) }
+        requires empty { result_of desk.old ≡ record { limit = ask.now.k; points = [] } }
+        ensures { result_of desk.new ≡ near_result self.now.state ask.now }
+    {
+        add_near(&self.rw, &self.dead, desk, ask);
+        add_near_frozen(self.ros.graphs(), &self.dead, desk, ask);
     }
 }

@@ -1,4 +1,4 @@
-ghost use Rattle.std.specs.Prelude.{◌≡◌, ◌<◌, ◌≤◌, ◌-◌, ◌^◌, ◌&&◌, ◌∷◌, [], false, None, Some, IsSome, IfOk, OnOk, OnErr, MatchOption, All, map, take, is_none};
+ghost use Rattle.std.specs.Prelude.{◌≡◌, ◌<◌, ◌≤◌, ◌-◌, ◌^◌, ◌&&◌, ◌∷◌, [], false, None, Some, IsSome, IsOk, IfOk, IfErr, OnOk, OnErr, ◌↔◌, length, MatchOption, All, map, take, is_none};
 ghost use Rattle.std.specs.Arc.{arc_value};
 ghost use Rattle.std.specs.Option.{option_map};
 ghost use Rattle.ann_types.specs.Graph.{empty_graph};
@@ -10,19 +10,24 @@ ghost use Rattle.ann_table.specs.Node.{graph_of};
 ghost use Rattle.ann_frozen.specs.Frozen.{Shown as FrozenShown};
 ghost use Rattle.ann_segment.specs.Directory.{Item};
 ghost use Rattle.ann_view.specs.Temp.{IsTemp};
+ghost use Rattle.ann_beam.specs.Desk.{result_of};
+ghost use Rattle.ann_beam.specs.declared.refused.SearchRefused.TheVariants.{Dimension};
+ghost use Rattle.ann_view.specs.Search.{near_result};
 ghost use Rattle.ann_view.specs.View.{Shown, IsView};
 ghost use Rattle.ann_view.specs.Pinned.{pinned};
 ghost use Rattle.ann_view.specs.Steps.{applied, with_entry_more, with_point_more, with_segment, ended, FitsIn, MayEnd, MayApply};
-ghost use Rattle.ann_view.specs.Stands.{StandsFor, IsEntryOf};
+ghost use Rattle.ann_view.specs.Stands.{StandsFor, IsEntryOf, lti_of};
+ghost use Rattle.ann_view.specs.Holding.{HoldsGraph, BringsMerge};
 
 use crate::op::Op;
 use crate::pinned::Pinned;
 use crate::temp::TempIndex;
+use ann_beam::{Desk, SearchRefused};
 use ann_dead::Dead;
 use ann_frozen::Frozen;
 use ann_pq::Codebook;
 use ann_segment::Segment;
-use ann_types::{Params, Pid, Tag, Vector};
+use ann_types::{Ask, Params, Pid, Tag, Vector};
 use ann_vault::Sealed;
 use std::alloc::{AllocError, Global};
 use std::marker::Model;
@@ -108,6 +113,10 @@ impl<S: Sealed> View<S> {
 
         // A view that stands for a list stands for the list with the entry.
         ensures stands { (h : BasedList) (entry : Entry) → StandsFor self.old h → IsEntryOf h op.now entry → OnOk result (StandsFor self.new (with_entry h entry)) }
+
+        // Where its segment holds the list's long-term graph, and an End's segment the one that the merge makes, the new
+        // segment holds the new list's.
+        ensures holds { (h : BasedList) (entry : Entry) → StandsFor self.old h → IsEntryOf h op.now entry → HoldsGraph S.bytes self.old (lti_of self.old h) → BringsMerge S.bytes self.old h op.now → OnOk result (HoldsGraph S.bytes self.new (lti_of self.new (with_entry h entry))) }
     {
         self.step(op)?;
         Ok(())
@@ -274,5 +283,28 @@ impl<S: Sealed> View<S> {
             dead: self.temp.pin()?,
             segment: self.segment()?,
         })
+    }
+
+    /// Finds the points nearest to a query in the graphs in memory: the desk's result then has, with the ask's k as its
+    /// limit, the least by distance and Pid of the live points near it in each. Deleted points take their places among
+    /// those near (FreshDiskANN, section 4.2). Takes no memory.
+    ///
+    /// # Errors
+    ///
+    /// `Dimension` exactly where the lengths differ. The result is then empty.
+    pub fn near(&self, desk: &mut Desk, ask: &Ask) -> Result<(), SearchRefused>
+        ensures near { OnOk result (result_of desk.new ≡ near_result self.now.memory ask.now) }
+        ensures fits { IsOk result ↔ (length ask.now.vector ≡ self.now.params.d) }
+        ensures dimension { IfErr result (λ why. why ≡ Dimension (length ask.now.vector) self.now.params.d) }
+        ensures emptied { OnErr result ((result_of desk.new).points ≡ []) }
+    {
+        desk.restart(ask.k);
+        let got = ask.vector.bytes().len() as u32;
+        let want = u32::from(self.temp.params().d);
+        if got != want {
+            return Err(SearchRefused::Dimension { got, want });
+        }
+        self.temp.near(desk, ask);
+        Ok(())
     }
 }

@@ -14,7 +14,7 @@ use Rattle.ann_view.specs.declared.op.Op.TheVariants.{Insert, Delete, Replace, B
 -- the segment holds this graph, or there is no segment and no point; `bytes` are those of a seal
 abbrev pub HoldsIn : {S : Type 0} → (S → List ℕ) → Params → Book → Option (SegmentView S) → Graph → Type 0
 HoldsIn bytes params book None lti = lti ≡ empty_graph
-HoldsIn bytes params book (Some segment) lti = Holds bytes params book segment lti
+HoldsIn bytes params book (Some segment) lti = Holds params book (bytes segment.seal) segment lti
 
 abbrev pub HoldsGraph : {S : Type 0} → (S → List ℕ) → Shown S → Graph → Type 0
 HoldsGraph bytes view lti = HoldsIn bytes view.params view.book.book view.segment lti
@@ -26,5 +26,5 @@ BringsMerge bytes view h (Delete pid) = Unit {0}
 BringsMerge bytes view h (Replace tag gone vector) = Unit {0}
 BringsMerge bytes view h Begin = Unit {0}
 BringsMerge bytes view h (End segment) =
-    Holds bytes view.params view.book.book segment.value (merge_of (index_of view) (fold_of (index_of view) h) (fold_of (index_of view) h).begun)
+    Holds view.params view.book.book (bytes segment.value.seal) segment.value (merge_of (index_of view) (fold_of (index_of view) h) (fold_of (index_of view) h).begun)
 BringsMerge bytes view h Close = Unit {0}
