@@ -1,6 +1,7 @@
 pub mod Commands
 pub mod Counts
 pub mod Living
+pub mod Searching
 pub mod Serving
 pub mod Sessions
 pub mod Transcribing

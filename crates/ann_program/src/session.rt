@@ -228,6 +228,16 @@ impl Session {
         ensures same { (h : BasedList) → Keeps h self.old → Keeps h self.new }
         ensures reply { (h : BasedList) → Keeps h self.old → IfOk result (λ reply. reply ≡ reply_to (once_index self.old.params) h (Find ask.now.k ask.now.l ask.now.vector)) }
     {
-        Err(AllocError)
+        self.view.known();
+        match self.view.near(&mut self.desk, ask) {
+            Ok(()) => Ok(Reply::Found {
+                at: self.entries(),
+                hits: copied(alloc, self.desk.hits())?,
+            }),
+            Err(SearchRefused::Dimension { got, want }) => Ok(Reply::Search {
+                refused: SearchWord::Dimension { got, want },
+            }),
+            Err(_) => unreachable!(),
+        }
     }
 }
