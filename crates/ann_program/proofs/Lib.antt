@@ -1,5 +1,6 @@
 pub mod Commands
 pub mod Counts
+pub mod Live
 pub mod Living
 pub mod Searching
 pub mod Serving

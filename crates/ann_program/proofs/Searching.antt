@@ -71,8 +71,8 @@ pub reply_is : (h : BasedList) (s : Session) (ask : Ask) (at : ℕ) (found : Lis
 reply_is h s ask at found keeps none same stands is =
     ap (λ (n : ℕ). Found n found) (stands ∙ keeps.stands.at)
     ∙ ap (Found (length_of h)) (
-      is
-      ∙ memory_hits (once_index s.params) s.view.memory ask none
-      ∙ ap (λ (state : State). hits (once_index s.params) state ask.k ask.l ask.vector) (sym (state_is h s keeps))
+    is
+    ∙ memory_hits (once_index s.params) s.view.memory ask none
+    ∙ ap (λ (state : State). hits (once_index s.params) state ask.k ask.l ask.vector) (sym (state_is h s keeps))
     )
     ∙ ap (λ t. cond t (Found (length_of h) (hits (once_index s.params) (fold_of (once_index s.params) h) ask.k ask.l ask.vector)) (Search (Dimension (length ask.vector) s.params.d))) (sym (eq-eqb (length ask.vector) s.params.d (same ∙ ap (λ (p : Params). p.d) keeps.params)))

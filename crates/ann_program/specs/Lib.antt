@@ -1,6 +1,7 @@
 pub mod Words
 pub mod Book
 pub mod Once
+pub mod Live
 pub mod Servable
 pub mod Standing
 pub mod Session

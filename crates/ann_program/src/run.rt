@@ -1,6 +1,10 @@
-ghost use Rattle.std.specs.Prelude.{◌≡◌, ◌≢◌, ◌≤◌, ◌-◌, map, IfOk, string_bytes};
+ghost use Rattle.std.specs.Prelude.{◌≡◌, ◌≢◌, ◌≤◌, ◌-◌, List, map, IfOk, string_bytes};
 ghost use Rattle.std.specs.List.{AllByRecursion};
 ghost use Rattle.ann_script.specs.Faults.{Rose};
+ghost use Rattle.ann_script.specs.Script.{Client};
+ghost use Rattle.ann_types.specs.declared.params.Params.{Params};
+ghost use Rattle.ann_program.specs.Live.{ScriptTellsLive};
+ghost use Rattle.ann_program.specs.Once.{once_index};
 ghost use Rattle.ann_program.specs.Servable.{IsServable, lines_limit};
 ghost use Rattle.ann_program.specs.Status.{Served, LineFault, line_fault_text, Ends, BreaksOff};
 ghost use Rattle.ann_program.specs.Owed.{IsDue, IsOwed};
@@ -81,6 +85,8 @@ pub fn run_alone<S: Source, K: Sink>(
     ensures ends { result ≢ 5 → Ends (map string_bytes words.now) (S.left input.old) (S.left input.new) (K.taken out.old) (K.taken out.new) result }
     // Where a write failed, a front of that text was written.
     ensures breaks_off { result ≡ 5 → BreaksOff (map string_bytes words.now) (S.left input.old) (S.left input.new) (K.taken out.old) (K.taken out.new) }
+    // Each tag that a search of a script tells is live at the list that its reply names.
+    ensures live { (params : Params) (script : List Client) → ScriptTellsLive (once_index params) script }
     // A fault is one that was counted in this call.
     ensures write_cause { result ≡ 5 → Rose (K.faults out.old) (K.faults out.new) }
     ensures read_cause { result ≡ 4 → Rose (S.faults input.old) (S.faults input.new) }

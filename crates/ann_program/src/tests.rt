@@ -60,6 +60,36 @@ const RUNS: &[(&str, &str, &str)] = &[
         "a 1 dimension 1 of 2 at 0\na 2 dimension 3 of 2\nlog 0 entries, 0 live\n",
     ),
     (
+        "once 2 2 4 1/1",
+        "a insert 7 3 4\na search 1 4 0 0\na delete 7\na search 1 4 0 0\na delete 7\n",
+        "a 1 inserted 7 at 1\na 2 found at 1 7:25\na 3 deleted 7 at 2\na 4 found at 2 none\na 5 absent 7 at 2\nlog 2 entries, 0 live\n",
+    ),
+    (
+        "once 2 2 4 1/1",
+        "a insert 7 3 4\na insert 7 1 1\na delete 8\n",
+        "a 1 inserted 7 at 1\na 2 present 7 at 1\na 3 absent 8 at 1\nlog 1 entries, 1 live\n",
+    ),
+    (
+        "once 2 2 4 1/1",
+        "a insert 7 3 4\na delete 7\na insert 7 3 4\na search 1 1 3 4\na search 1 2 3 4\n",
+        "a 1 inserted 7 at 1\na 2 deleted 7 at 2\na 3 inserted 7 at 3\na 4 found at 3 none\na 5 found at 3 7:0\nlog 3 entries, 1 live\n",
+    ),
+    (
+        "once 2 2 4 1/1",
+        "a insert 7 3 4\na batch delete 7 ; insert 7 9 9\na batch insert 8 1 1 ; insert 8 2 2\na search 1000 1000 0 0\n",
+        "a 1 inserted 7 at 1\na 2 accepted 2 at 3\na 3 change 2 present 8 at 3\na 4 found at 3 7:162\nlog 3 entries, 1 live\n",
+    ),
+    (
+        "once 2 2 4 1/1",
+        "a insert 7 3 4\na replace 7 0 0\na search 2 4 0 0\na replace 8 1 1\na replace 7 1\n",
+        "a 1 inserted 7 at 1\na 2 replaced 7 at 2\na 3 found at 2 7:0\na 4 absent 8 at 2\na 5 dimension 1 of 2 at 2\nlog 2 entries, 1 live\n",
+    ),
+    (
+        "once 1 2 4 1/1",
+        "a batch insert 7 1 ; replace 7 2 ; delete 7 ; insert 7 3 ; delete 7 ; insert 7 4\na batch delete 7 ; delete 7\na batch replace 7 5 ; insert 8 6 ; insert 9 1 1\na search 9 9 0\n",
+        "a 1 accepted 6 at 6\na 2 change 2 absent 7 at 6\na 3 change 3 dimension 2 of 1 at 6\na 4 found at 6 7:16\nlog 6 entries, 1 live\n",
+    ),
+    (
         "once 1 128 1000 100/100",
         " a\tinsert  18446744073709551615 255\r\n# no more\na search 1 1 0",
         "a 1 inserted 18446744073709551615 at 1\na 2 found at 1 18446744073709551615:65025\nlog 1 entries, 1 live\n",

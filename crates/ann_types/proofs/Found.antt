@@ -83,11 +83,16 @@ hits_alive index s k width query w =
     let both = has_filter (λ q. not (has s.dead q)) (found index s query width) p (top_inside far k p some h) in
     tag_alive s.dead (all_points s) p (found_inside index s query width w p both.0) (not-true (has s.dead p) both.1)))
 
+-- Every tag that a search finds is live.
+pub hits_are_live : (index : Index) (h : BasedList) (k width : ℕ) (query : List ℕ) → IsBaseOf index.params h.base → is_legal index h ≡ true → AllByRecursion (λ (x : Hit). is_live (live_of h) x.tag ≡ true) (hits index (fold_of index h) k width query)
+hits_are_live index h k width query b l =
+    subst (λ (t : Names). AllByRecursion (λ (x : Hit). is_live t x.tag ≡ true) (hits index (fold_of index h) k width query)) (sym (live_tags index h b l))
+    (hits_alive index (fold_of index h) k width query (fold_leaves_graphs index h b l))
+
 -- Every tag that an answer tells is live.
 pub answer_is_live : (index : Index) (h : BasedList) (ask : Ask) → IsBaseOf index.params h.base → is_legal index h ≡ true → All (λ (x : Hit). IsTrue (is_live (live_of h) x.tag)) (answer index h ask)
 answer_is_live index h ask b l =
-    subst (λ (t : Names). All (λ (x : Hit). IsTrue (is_live t x.tag)) (answer index h ask)) (sym (live_tags index h b l))
-    (All-from_recursion (λ (x : Hit). is_live (alive_of (fold_of index h)) x.tag ≡ true) (answer index h ask) (hits_alive index (fold_of index h) ask.k ask.l ask.vector (fold_leaves_graphs index h b l)))
+    All-from_recursion (λ (x : Hit). is_live (live_of h) x.tag ≡ true) (answer index h ask) (hits_are_live index h ask.k ask.l ask.vector b l)
 
 -- An answer has at most k hits.
 pub answer_is_short : (index : Index) (h : BasedList) (ask : Ask) → length (answer index h ask) ≤ ask.k
