@@ -15,8 +15,9 @@ use Rattle.ann_types.proofs.Named.{pids_append}
 use Rattle.ann_types.proofs.Graphs.{pids_put}
 use Rattle.ann_segment.specs.Directory.{Item, AreRising}
 use Rattle.ann_segment.specs.Segment.{SegmentView}
-use Rattle.ann_view.specs.View.{Shown, IsView, item_pids, segment_pids, pids_in}
-use Rattle.ann_view.specs.Steps.{with_entry_more, with_point_more, with_segment, ended, MayEnd}
+use Rattle.ann_view.specs.View.{Shown, IsMemory, IsView, item_pids, segment_pids, pids_in}
+use Rattle.ann_view.specs.Steps.{with_entry_more, with_point_more, with_segment, ended, FitsIn, MayEnd}
+use Rattle.ann_view.proofs.Memories.{memory_inserted, memory_deleted, memory_begun, memory_ended}
 
 -- ---- Pids of states
 
@@ -78,16 +79,19 @@ later_begun : (o : Option Begun) (at : ℕ) → MatchOption o (Unit {0}) (λ b. 
 later_begun None at h = tt
 later_begun (Some b) at h = omega arith
 
-pub rw_below : {S : Type 0} (view : Shown S) → IsView view → All (λ (x : Point). x.pid < view.next) view.memory.rw.points
-rw_below view w =
+own_below : {S : Type 0} (view : Shown S) → IsView view → AllByRecursion (λ p. p < view.next) (pids_of view.memory.rw.points)
+own_below view w =
     let older : List Point = view.memory.lti.points ++ points_in view.memory.ros in
     let own : AllByRecursion (λ p. p < view.next) (pids_of (all_points view.memory)) = all_right (λ p. p < view.next) (segment_pids view.segment) (pids_of (all_points view.memory)) (below_all view.next (pids_in view.segment view.memory) w.below) in
-    All-from_recursion (λ (x : Point). x.pid < view.next) view.memory.rw.points
-    (all_of_map (λ p. p < view.next) (λ (x : Point). x.pid) view.memory.rw.points
-    (all_right (λ p. p < view.next) (pids_of older) (pids_of view.memory.rw.points) (subst (AllByRecursion (λ p. p < view.next)) (pids_append older view.memory.rw.points) own)))
+    all_right (λ p. p < view.next) (pids_of older) (pids_of view.memory.rw.points) (subst (AllByRecursion (λ p. p < view.next)) (pids_append older view.memory.rw.points) own)
 
-pub view_pointed : {S : Type 0} (view : Shown S) (memory : State) → IsView view → view.next < pid_end → pids_of (all_points memory) ≡ pids_of (all_points view.memory) ++ view.next ∷ [] → memory.begun ≡ view.memory.begun → IsView (with_point_more view memory)
-view_pointed view memory w small pids same =
+pub rw_below : {S : Type 0} (view : Shown S) → IsView view → All (λ (x : Point). x.pid < view.next) view.memory.rw.points
+rw_below view w =
+    All-from_recursion (λ (x : Point). x.pid < view.next) view.memory.rw.points
+    (all_of_map (λ p. p < view.next) (λ (x : Point). x.pid) view.memory.rw.points (own_below view w))
+
+pub view_pointed : {S : Type 0} (view : Shown S) (memory : State) → IsView view → view.next < pid_end → pids_of (all_points memory) ≡ pids_of (all_points view.memory) ++ view.next ∷ [] → memory.begun ≡ view.memory.begun → IsMemory view.params memory → IsView (with_point_more view memory)
+view_pointed view memory w small pids same sound =
     let all : List ℕ = pids_in view.segment view.memory in
     let is : pids_in view.segment memory ≡ all ++ view.next ∷ [] = ap (λ t. segment_pids view.segment ++ t) pids ∙ sym (append_assoc (segment_pids view.segment) (pids_of (all_points view.memory)) (view.next ∷ [])) in
     let below : AllByRecursion (λ pid. pid < view.next) all = below_all view.next all w.below in
@@ -95,34 +99,36 @@ view_pointed view memory w small pids same =
       rising = subst IsStrictlyIncreasing (sym is) (increasing_from_rises (all ++ view.next ∷ []) (rises_push all view.next (rises_from_increasing all w.rising) below));
       below = subst (All (λ pid. pid < view.next + 1)) (sym is) (All-from_recursion (λ pid. pid < view.next + 1) (all ++ view.next ∷ []) (all_append (λ pid. pid < view.next + 1) all (view.next ∷ []) (all_weaker (λ pid. pid < view.next) (λ pid. pid < view.next + 1) all (λ pid l. omega arith) below) (omega arith, tt)));
       next = omega arith;
+      memory = sound;
       book = w.book;
       codes = w.codes;
       begun = subst (λ (o : Option Begun). MatchOption o (Unit {0}) (λ b. b.position < view.at + 1)) (sym same) (later_begun view.memory.begun view.at w.begun);
     }
 
-pub view_gone_on : {S : Type 0} (view : Shown S) (memory : State) → IsView view → pids_of (all_points memory) ≡ pids_of (all_points view.memory) → MatchOption memory.begun (Unit {0}) (λ b. b.position < view.at + 1) → IsView (with_entry_more view memory)
-view_gone_on view memory w pids before =
+pub view_gone_on : {S : Type 0} (view : Shown S) (memory : State) → IsView view → pids_of (all_points memory) ≡ pids_of (all_points view.memory) → MatchOption memory.begun (Unit {0}) (λ b. b.position < view.at + 1) → IsMemory view.params memory → IsView (with_entry_more view memory)
+view_gone_on view memory w pids before sound =
     let is : pids_in view.segment memory ≡ pids_in view.segment view.memory = ap (λ t. segment_pids view.segment ++ t) pids in
     record {
       rising = subst IsStrictlyIncreasing (sym is) w.rising;
       below = subst (All (λ pid. pid < view.next)) (sym is) w.below;
       next = w.next;
+      memory = sound;
       book = w.book;
       codes = w.codes;
       begun = before;
     }
 
-pub view_inserted : {S : Type 0} (view : Shown S) (tag : ℕ) (vector : List ℕ) → IsView view → view.next < pid_end → IsView (with_point_more view (inserted view.params view.memory view.next tag vector))
-view_inserted view tag vector w small = view_pointed view (inserted view.params view.memory view.next tag vector) w small (pids_inserted view.params view.memory view.next tag vector) (begun_inserted view.params view.memory view.next tag vector)
+pub view_inserted : {S : Type 0} (view : Shown S) (tag : ℕ) (vector : List ℕ) → IsView view → FitsIn view vector → IsView (with_point_more view (inserted view.params view.memory view.next tag vector))
+view_inserted view tag vector w fits = view_pointed view (inserted view.params view.memory view.next tag vector) w fits.pid (pids_inserted view.params view.memory view.next tag vector) (begun_inserted view.params view.memory view.next tag vector) (memory_inserted view.params view.memory view.next tag vector (own_below view w) fits.width w.memory)
 
-pub view_replaced : {S : Type 0} (view : Shown S) (gone : List ℕ) (tag : ℕ) (vector : List ℕ) → IsView view → view.next < pid_end → IsView (with_point_more view (inserted view.params (deleted view.memory gone) view.next tag vector))
-view_replaced view gone tag vector w small = view_pointed view (inserted view.params (deleted view.memory gone) view.next tag vector) w small (pids_inserted view.params (deleted view.memory gone) view.next tag vector) (begun_inserted view.params (deleted view.memory gone) view.next tag vector)
+pub view_replaced : {S : Type 0} (view : Shown S) (gone : List ℕ) (tag : ℕ) (vector : List ℕ) → IsView view → FitsIn view vector → IsView (with_point_more view (inserted view.params (deleted view.memory gone) view.next tag vector))
+view_replaced view gone tag vector w fits = view_pointed view (inserted view.params (deleted view.memory gone) view.next tag vector) w fits.pid (pids_inserted view.params (deleted view.memory gone) view.next tag vector) (begun_inserted view.params (deleted view.memory gone) view.next tag vector) (memory_inserted view.params (deleted view.memory gone) view.next tag vector (own_below view w) fits.width (memory_deleted view.params view.memory gone w.memory))
 
 pub view_deleted : {S : Type 0} (view : Shown S) (gone : List ℕ) → IsView view → IsView (with_entry_more view (deleted view.memory gone))
-view_deleted view gone w = view_gone_on view (deleted view.memory gone) w refl (later_begun view.memory.begun view.at w.begun)
+view_deleted view gone w = view_gone_on view (deleted view.memory gone) w refl (later_begun view.memory.begun view.at w.begun) (memory_deleted view.params view.memory gone w.memory)
 
 pub view_begun : {S : Type 0} (view : Shown S) → IsView view → IsView (with_entry_more view (begun_at view.memory view.at))
-view_begun view w = view_gone_on view (begun_at view.memory view.at) w (pids_begun view.memory view.at) (omega arith)
+view_begun view w = view_gone_on view (begun_at view.memory view.at) w (pids_begun view.memory view.at) (omega arith) (memory_begun view.params view.memory view.at w.memory)
 
 -- lists one of which is below the other
 rises_two : (xs ys : List ℕ) → Rises xs → Rises ys → AllByRecursion (λ x. AllByRecursion (λ y. x < y) ys) xs → Rises (xs ++ ys)
@@ -147,6 +153,7 @@ view_ended view segment w rising may =
       rising = increasing_from_rises (new ++ pids_of stay) (rises_two new (pids_of stay) (rises_from_increasing new rising) old older);
       below = All-from_recursion (λ pid. pid < view.next) (new ++ pids_of stay) (all_append (λ pid. pid < view.next) new (pids_of stay) (all_map (λ pid. pid < view.next) (λ (x : Item). x.0) segment.items (recursion_from_All (λ (x : Item). x.0 < view.next) segment.items may.below)) below);
       next = w.next;
+      memory = memory_ended view.params view.memory view.memory.begun w.memory;
       book = w.book;
       codes = may.code_bytes;
       begun = begun_ended view.memory view.memory.begun (λ b. b.position < view.at + 1) refl;

@@ -1,6 +1,7 @@
 -- Points that differ.
 use Rattle.std.proofs.Common.{◌≡◌, ℕ, zero, suc, ◌<◌, Bool, true, false, cond, eqb, not, List, [], ◌∷◌, ◌++◌, ◌||◌, refl, sym, ap, ◌∙◌, subst, arith, filter, take, inl, inr, eq-eqb}
 use Rattle.std.specs.Prelude.{Option, Some, None}
+use Rattle.std.specs.List.{AllByRecursion, IsDistinct}
 use Rattle.std.proofs.lemmas.Bool.{false≢true, eqb-true, ne_eqb}
 use Rattle.ann_types.specs.Order.{has}
 use Rattle.ann_types.specs.Walk.{near, met}
@@ -60,3 +61,12 @@ new_from there (x ∷ xs) (n, d) apart =
        | inl e ↦ false≢true (sym n ∙ subst (λ (t : ℕ). has xs t ≡ true) (eqb-true p x e) h)
        | inr later ↦ apart p (has_later x p xs h) later
      ]))
+
+pub distinct_from_each : (xs : List ℕ) → IsDistinct eqb xs → Distinct xs
+unfolding IsDistinct
+distinct_from_each [] d = tt
+distinct_from_each (x ∷ xs) (a, d) = (lacks x xs a, distinct_from_each xs d)
+  where
+    lacks : (x : ℕ) (xs : List ℕ) → AllByRecursion (λ y. eqb x y ≡ false) xs → has xs x ≡ false
+    lacks x [] a = refl
+    lacks x (y ∷ xs) (h, a) = ap (λ t. t || has xs x) h ∙ lacks x xs a

@@ -73,6 +73,12 @@ module _ (dead query : List ℕ) (width : ℕ) (all : List Point) where
       ∙ ap (λ t. ranks (without dead (near_to g query width)) ++ t) (all_ranks graphs (agrees_trans rest (g.points ++ rest) all right (agrees_right g.points rest r) agrees) (rises_right (pids_of g.points) (pids_of rest) split) a)
       ∙ ranks_append (near_to g query width) (nears query width graphs)
 
+-- Points that differ, ranked one after the other, are the least of all.
+pub ranked_new : (far tag : ℕ → ℕ) (k : ℕ) (pids : List ℕ) → Distinct pids → with_all k (map (rank far tag) pids) [] ≡ map (rank far tag) (top far k pids)
+ranked_new far tag k pids d =
+    ap (with_all k (map (rank far tag) pids)) (sym (ap (map (rank far tag)) (take-nil k)))
+    ∙ all_ranked far tag k [] pids (new_from [] pids d (λ p h e. false≢true e))
+
 -- ---- the whole
 
 module _ (s : State) (query : List ℕ) (width : ℕ) (r : Rises (pids_of (all_points s))) (own : AreInside query width s.rw) (frozen : AllByRecursion (AreInside query width) s.ros) where
@@ -102,15 +108,19 @@ module _ (s : State) (query : List ℕ) (width : ℕ) (r : Rises (pids_of (all_p
       (nears_distinct query width s.ros frozen (rises_right (pids_of s.lti.points) (pids_of (points_in s.ros)) older_split))
       (λ p h k. apart_across (pids_of older) (pids_of s.rw.points) (nears query width s.ros) (near_to s.rw query width) split (λ q i. ros_inside q (nears_inside query width s.ros frozen q i)) own p k h)
 
+  pub near_memory_inside : (p : ℕ) → has (near_memory s query width) p ≡ true → has (pids_of (all_points s)) p ≡ true
+  near_memory_inside p h =
+      ap (λ (t : List ℕ). has t p) (pids_append older s.rw.points)
+      ∙ elim (has (near_to s.rw query width) p) as (λ t. has (near_to s.rw query width) p ≡ t → has (pids_of older ++ pids_of s.rw.points) p ≡ true) [
+        | true ↦ λ e. wider_right (pids_of older) (pids_of s.rw.points) p (own p e)
+        | false ↦ λ e. wider_left (pids_of older) (pids_of s.rw.points) p (ros_inside p (nears_inside query width s.ros frozen p (sym (ap (λ t. t || has (nears query width s.ros) p) e) ∙ sym (has_append (near_to s.rw query width) (nears query width s.ros) p) ∙ h)))
+      ] refl
+
   -- Ranked one after the other, the points near the query are the least of all.
   pub near_joined : (k : ℕ) → with_all k (near_points s.dead s.rw query width ++ flat_map (λ (g : Graph). near_points s.dead g query width) s.ros) [] ≡ ranked_of (all_points s) query k (without s.dead (near_memory s query width))
   near_joined k =
-      let far : ℕ → ℕ = far_from (all_points s) query in
-      let tag : ℕ → ℕ = tag_of (all_points s) in
-      let some : List ℕ = without s.dead (near_memory s query width) in
       ap (λ (t : List Ranked). with_all k t []) near_points_are
-      ∙ ap (with_all k (map (rank far tag) some)) (sym (ap (map (rank far tag)) (take-nil k)))
-      ∙ all_ranked far tag k [] some (new_from [] some (distinct_filter (λ q. not (has s.dead q)) (near_memory s query width) near_differ) (λ p h e. false≢true e))
+      ∙ ranked_new (far_from (all_points s) query) (tag_of (all_points s)) k (without s.dead (near_memory s query width)) (distinct_filter (λ q. not (has s.dead q)) (near_memory s query width) near_differ)
 
   -- The result of one graph after the other.
   pub result_is : (k : ℕ) (first mid end : RankingShown) → first ≡ record { limit = k; points = [] } → mid.limit ≡ first.limit → mid.points ≡ with_all first.limit (near_points s.dead s.rw query width) first.points → end.limit ≡ mid.limit → end.points ≡ with_all mid.limit (flat_map (λ (g : Graph). near_points s.dead g query width) s.ros) mid.points → end ≡ record { limit = k; points = ranked_of (all_points s) query k (without s.dead (near_memory s query width)) }

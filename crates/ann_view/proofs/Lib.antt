@@ -7,3 +7,5 @@ pub mod Nearest
 pub mod Distinct
 pub mod Agrees
 pub mod Joined
+pub mod Memories
+pub mod Whole

@@ -5,7 +5,7 @@ use Rattle.std.specs.Option.{option_map}
 use Rattle.std.specs.List.Sorted.{IsStrictlyIncreasing}
 use Rattle.std.specs.declared.sync.Arc.{Arc}
 use Rattle.std.specs.declared.alloc.Global.{Global}
-use Rattle.ann_types.specs.Graph.{Graph, pids_of}
+use Rattle.ann_types.specs.Graph.{Graph, empty_graph, pids_of, IsGraphOf}
 use Rattle.ann_types.specs.Index.{Index}
 use Rattle.ann_types.specs.Fold.{State, all_points}
 use Rattle.ann_types.specs.Legal.{pid_end}
@@ -47,12 +47,18 @@ segment_pids (Some segment) = item_pids segment.items
 abbrev pub pids_in : {S : Type 0} → Option (SegmentView S) → State → List ℕ
 pids_in segment memory = segment_pids segment ++ pids_of (all_points memory)
 
--- Pids rise with age and are below the next one, which is one; what it holds has the index's sizes; and an open merge
--- has begun before
+-- the graphs in memory are graphs of the index, and the long-term graph isn't among them
+pub record IsMemory (params : Params) (memory : State) : Type 0 where
+  pub lti : memory.lti ≡ empty_graph
+  pub rw : IsGraphOf params memory.rw
+  pub ros : All (IsGraphOf params) memory.ros
+
+-- Pids rise with age and are below the next one; what it holds is of the index; and an open merge has begun before
 pub record IsView {S : Type 0} (view : Shown S) : Type 0 where
   pub rising : IsStrictlyIncreasing (pids_in view.segment view.memory)
   pub below : All (λ pid. pid < view.next) (pids_in view.segment view.memory)
   pub next : view.next ≤ pid_end
+  pub memory : IsMemory view.params view.memory
   pub book : (view.book.d ≡ view.params.d) × (view.book.m ≡ view.params.m)
   pub codes : MatchOption view.segment (Unit {0}) (λ segment. segment.m ≡ view.params.m)
   pub begun : MatchOption view.memory.begun (Unit {0}) (λ b. b.position < view.at)

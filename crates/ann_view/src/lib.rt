@@ -11,9 +11,11 @@ mod near;
 mod op;
 mod open_merge;
 mod pinned;
+mod search;
 mod temp;
 mod view;
 
 pub use op::Op;
 pub use pinned::Pinned;
+pub use search::Found;
 pub use view::View;

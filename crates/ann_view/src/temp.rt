@@ -252,4 +252,11 @@ impl TempIndex {
         add_near(&self.rw, &self.dead, desk, ask);
         add_near_frozen(self.ros.graphs(), &self.dead, desk, ask);
     }
+
+    /// The deleted points.
+    pub(crate) fn dead(&self) -> &Dead
+        ensures { result.now ≡ self.now.state.dead }
+    {
+        &self.dead
+    }
 }

@@ -1,7 +1,10 @@
-ghost use Rattle.std.specs.Prelude.{◌≡◌, ◌<◌, ◌≤◌, ◌-◌, ◌^◌, ◌&&◌, ◌∷◌, [], false, None, Some, IsSome, IsOk, IfOk, IfErr, OnOk, OnErr, ◌↔◌, length, MatchOption, All, map, take, is_none};
+ghost use Rattle.std.specs.Prelude.{ℕ, ◌≢◌, ◌⊎◌, IsErrOf, ◌≡◌, ◌<◌, ◌≤◌, ◌-◌, ◌^◌, ◌&&◌, ◌∷◌, [], false, None, Some, IsSome, IsOk, IfOk, IfErr, OnOk, OnErr, ◌↔◌, length, MatchOption, All, map, take, is_none};
 ghost use Rattle.std.specs.Arc.{arc_value};
 ghost use Rattle.std.specs.Option.{option_map};
-ghost use Rattle.ann_types.specs.Graph.{empty_graph};
+ghost use Rattle.ann_types.specs.Graph.{Graph, empty_graph};
+ghost use Rattle.ann_types.specs.Rounds.{rounds};
+ghost use Rattle.ann_types.specs.Answer.{hits, answer};
+ghost use Rattle.ann_vault.specs.Causes.{Rose};
 ghost use Rattle.ann_types.specs.Lists.{BasedList, with_entry};
 ghost use Rattle.ann_types.specs.Fold.{start, inserted, deleted, begun_at};
 ghost use Rattle.ann_types.specs.Legal.{pid_end, has_work};
@@ -10,10 +13,12 @@ ghost use Rattle.ann_table.specs.Node.{graph_of};
 ghost use Rattle.ann_frozen.specs.Frozen.{Shown as FrozenShown};
 ghost use Rattle.ann_segment.specs.Directory.{Item};
 ghost use Rattle.ann_view.specs.Temp.{IsTemp};
-ghost use Rattle.ann_beam.specs.Desk.{result_of};
-ghost use Rattle.ann_beam.specs.declared.refused.SearchRefused.TheVariants.{Dimension};
-ghost use Rattle.ann_view.specs.Search.{near_result};
-ghost use Rattle.ann_view.specs.View.{Shown, IsView};
+ghost use Rattle.ann_beam.specs.Desk.{page_of, result_of};
+ghost use Rattle.ann_beam.specs.Ranking.{hit_of};
+ghost use Rattle.ann_beam.specs.Reads.{more_reads};
+ghost use Rattle.ann_beam.specs.declared.refused.SearchRefused.TheVariants.{Dimension, Disk, BadSegment};
+ghost use Rattle.ann_view.specs.Search.{near_result, IsBadIn, IsReadIn};
+ghost use Rattle.ann_view.specs.View.{Shown, IsView, index_of, whole};
 ghost use Rattle.ann_view.specs.Pinned.{pinned};
 ghost use Rattle.ann_view.specs.Steps.{applied, with_entry_more, with_point_more, with_segment, ended, FitsIn, MayEnd, MayApply};
 ghost use Rattle.ann_view.specs.Stands.{StandsFor, IsEntryOf, lti_of};
@@ -21,6 +26,7 @@ ghost use Rattle.ann_view.specs.Holding.{HoldsGraph, BringsMerge};
 
 use crate::op::Op;
 use crate::pinned::Pinned;
+use crate::search::{Found, add_long_term};
 use crate::temp::TempIndex;
 use ann_beam::{Desk, SearchRefused};
 use ann_dead::Dead;
@@ -28,7 +34,7 @@ use ann_frozen::Frozen;
 use ann_pq::Codebook;
 use ann_segment::Segment;
 use ann_types::{Ask, Params, Pid, Tag, Vector};
-use ann_vault::Sealed;
+use ann_vault::{Eye, Sealed};
 use std::alloc::{AllocError, Global};
 use std::marker::Model;
 use std::sync::Arc;
@@ -306,5 +312,84 @@ impl<S: Sealed> View<S> {
         }
         self.temp.near(desk, ask);
         Ok(())
+    }
+
+    /// Adds the long-term points to what `near` left on the desk, as `Pinned::disk` does.
+    ///
+    /// `near` was the desk's last call, for this ask and this view.
+    ///
+    /// # Errors
+    ///
+    /// `Disk` and `BadSegment`, as `beam` answers them. The hits are then empty, and after `BadSegment` the desk's page
+    /// is the block at fault.
+    pub fn disk<E: Eye<Seal = S>>(
+        &self,
+        desk: &mut Desk,
+        eye: &mut E,
+        ask: &Ask,
+    ) -> Result<Found, SearchRefused>
+        requires width { length ask.now.vector ≡ self.now.params.d }
+        requires near { result_of desk.old ≡ near_result self.now.memory ask.now }
+        ensures at { IfOk result (λ found. found.at ≡ self.now.at) }
+
+        // It finds the answer of this state, with the long-term graph that the segment holds.
+        ensures found { S.tells → (lti : Graph) → HoldsGraph S.bytes self.now lti → OnOk result (map hit_of (result_of desk.new).points ≡ hits (index_of self.now) (whole self.now lti) ask.now.k ask.now.l ask.now.vector) }
+
+        // So it finds the answer of every list that the view stands for.
+        ensures answer { S.tells → (h : BasedList) → StandsFor self.now h → HoldsGraph S.bytes self.now (lti_of self.now h) → OnOk result (map hit_of (result_of desk.new).points ≡ answer (index_of self.now) h ask.now) }
+
+        // Each point that it visits in the long-term graph is read once.
+        ensures read { S.tells → (lti : Graph) → HoldsGraph S.bytes self.now lti → OnOk result (E.reads eye.new ≡ more_reads (length (rounds self.now.book.book lti ask.now.vector ask.now.l self.now.params.w)) (E.reads eye.old)) }
+        ensures emptied { OnErr result ((result_of desk.new).points ≡ []) }
+        ensures refused { IfErr result (λ why. (why ≡ Disk) ⊎ ((block : ℕ) × (why ≡ BadSegment block))) }
+        ensures disk { IfErr result (λ why. why ≡ Disk → Rose (E.faults eye.old) (E.faults eye.new)) }
+        ensures bad { IfErr result (λ why. (block : ℕ) → why ≡ BadSegment block → IsBadIn self.now.segment self.now.params (page_of desk.new) block) }
+        ensures bad_read { IfErr result (λ why. (block : ℕ) → why ≡ BadSegment block → Rose (E.reads eye.old) (E.reads eye.new)) }
+        ensures bad_told { S.tells → IfErr result (λ why. (block : ℕ) → why ≡ BadSegment block → IsReadIn S.bytes self.now.segment (page_of desk.new) block) }
+        ensures sound { S.tells → (lti : Graph) → HoldsGraph S.bytes self.now lti → IfErr result (λ why. why ≡ Disk) }
+        ensures later { E.faults eye.old ≤ E.faults eye.new }
+    {
+        let params = self.temp.params();
+        add_long_term(&self.segment, &self.book, params, self.temp.dead(), desk, eye, ask)?;
+        Ok(Found { at: self.at })
+    }
+
+    /// Finds the points nearest to a query (Search of FreshDiskANN, section 5.1): `near`, and then `disk`. The hits on the
+    /// desk are the answer of every list that the view stands for. Takes no memory.
+    ///
+    /// # Errors
+    ///
+    /// `Dimension` exactly where the lengths differ, and it comes first. `Disk` and `BadSegment`, as `beam` answers them.
+    /// The hits are then empty, and after `BadSegment` the desk's page is the block at fault.
+    pub fn search<E: Eye<Seal = S>>(
+        &self,
+        desk: &mut Desk,
+        eye: &mut E,
+        ask: &Ask,
+    ) -> Result<Found, SearchRefused>
+        ensures at { IfOk result (λ found. found.at ≡ self.now.at) }
+
+        // It finds the answer of this state, with the long-term graph that the segment holds.
+        ensures found { S.tells → (lti : Graph) → HoldsGraph S.bytes self.now lti → OnOk result (map hit_of (result_of desk.new).points ≡ hits (index_of self.now) (whole self.now lti) ask.now.k ask.now.l ask.now.vector) }
+
+        // So it finds the answer of every list that the view stands for.
+        ensures answer { S.tells → (h : BasedList) → StandsFor self.now h → HoldsGraph S.bytes self.now (lti_of self.now h) → OnOk result (map hit_of (result_of desk.new).points ≡ answer (index_of self.now) h ask.now) }
+
+        // Each point that it visits in the long-term graph is read once.
+        ensures read { S.tells → (lti : Graph) → HoldsGraph S.bytes self.now lti → OnOk result (E.reads eye.new ≡ more_reads (length (rounds self.now.book.book lti ask.now.vector ask.now.l self.now.params.w)) (E.reads eye.old)) }
+        ensures emptied { OnErr result ((result_of desk.new).points ≡ []) }
+
+        // Where the lengths differ that is answered, and nothing is read.
+        ensures differ { length ask.now.vector ≢ self.now.params.d → IsErrOf result (Dimension (length ask.now.vector) self.now.params.d) × (E.reads eye.new ≡ E.reads eye.old) }
+        ensures refused { length ask.now.vector ≡ self.now.params.d → IfErr result (λ why. (why ≡ Disk) ⊎ ((block : ℕ) × (why ≡ BadSegment block))) }
+        ensures disk { IfErr result (λ why. why ≡ Disk → Rose (E.faults eye.old) (E.faults eye.new)) }
+        ensures bad { IfErr result (λ why. (block : ℕ) → why ≡ BadSegment block → IsBadIn self.now.segment self.now.params (page_of desk.new) block) }
+        ensures bad_read { IfErr result (λ why. (block : ℕ) → why ≡ BadSegment block → Rose (E.reads eye.old) (E.reads eye.new)) }
+        ensures bad_told { S.tells → IfErr result (λ why. (block : ℕ) → why ≡ BadSegment block → IsReadIn S.bytes self.now.segment (page_of desk.new) block) }
+        ensures sound { S.tells → (lti : Graph) → HoldsGraph S.bytes self.now lti → IfErr result (λ why. (block : ℕ) → why ≢ BadSegment block) }
+        ensures later { E.faults eye.old ≤ E.faults eye.new }
+    {
+        self.near(desk, ask)?;
+        self.disk(desk, eye, ask)
     }
 }
