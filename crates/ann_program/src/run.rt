@@ -75,6 +75,7 @@ fn due<S: Source>(alloc: Global, words: &[String], input: &mut S) -> Owed
 /// The command is `once D R L A/B`: it reads a script of one client, and writes the replies to its commands in order.
 /// The status is 0, or 2 where the words are at fault, 3 where a line of the script is, 4 where a read failed, 5 where
 /// a write failed, and 9 where there was no memory. For all but 5 the text that belongs to it was written as a whole.
+#[tactic(auto, using(crate::proofs::Live::script_tells))]
 pub fn run_alone<S: Source, K: Sink>(
     alloc: Global,
     words: &[String],
