@@ -1,19 +1,17 @@
 -- The searches of a script tell live tags.
-use Rattle.std.proofs.Common.{◌≡◌, ◌≤◌, ℕ, Bool, true, false, cond, eqb, List, [], ◌∷◌, refl, sym, ap, subst, ◌∙◌, arith, length}
+use Rattle.std.proofs.Common.{◌≡◌, ℕ, Bool, true, false, cond, eqb, List, [], ◌∷◌, refl, ap, arith, length}
 use Rattle.std.specs.Prelude.{Option, None, Some}
-use Rattle.std.specs.List.{AllByRecursion}
 use Rattle.ann_types.specs.Answer.{hits}
 use Rattle.ann_types.specs.Fold.{fold_of}
 use Rattle.ann_types.specs.Index.{Index}
 use Rattle.ann_types.specs.Judge.{Refusal, judge_all}
-use Rattle.ann_types.specs.Legal.{pid_end, is_legal}
+use Rattle.ann_types.specs.Legal.{is_legal}
 use Rattle.ann_types.specs.Lists.{BasedList, ListBase, empty_base, empty_list, length_of}
 use Rattle.ann_types.specs.declared.change.Change.{Change}
 use Rattle.ann_types.proofs.Found.{hits_are_live}
 use Rattle.ann_types.proofs.Judged.{accepted_is_legal}
 use Rattle.ann_script.specs.Order.{Order, Apply, Find}
 use Rattle.ann_script.specs.Script.{Client}
-use Rattle.ann_script.specs.declared.reply.Reply.{Reply}
 use Rattle.ann_script.specs.declared.reply.Reply.TheVariants.{Found, Search}
 use Rattle.ann_script.specs.declared.reply.SearchWord.TheVariants.{Dimension}
 use Rattle.ann_program.specs.Live.{TellsLive, AllTellLive, ScriptTellsLive}

@@ -1,11 +1,11 @@
 -- The live tags and the next Pid behind some changes.
-use Rattle.std.proofs.Common.{◌≡◌, ◌<◌, ◌≤◌, ℕ, ◌+◌, Bool, true, false, cond, Option, Some, None, List, [], ◌∷◌, ◌++◌, refl, sym, ap, ◌∙◌, map, take, drop, length, get_or, nat_eq, eq-eqb}
+use Rattle.std.proofs.Common.{◌≡◌, ◌<◌, ◌≤◌, ℕ, ◌+◌, true, false, cond, Option, Some, None, List, [], ◌∷◌, ◌++◌, refl, sym, ap, ◌∙◌, map, take, drop, length, get_or, nat_eq, eq-eqb}
 use Rattle.std.proofs.lemmas.Bool.{ne_eqb}
 use Rattle.std.specs.Prelude.{is_some}
-use Rattle.std.specs.FinMap.{get, insert, remove}
+use Rattle.std.specs.FinMap.{get}
 use Rattle.std.proofs.lemmas.List.{map-append, take_more, drop_more, drop_all}
 use Rattle.ann_types.specs.Judge.{Refusal, entry_of, judge, judge_from, judge_all}
-use Rattle.ann_types.specs.Lists.{BasedList, with_entry, with_entries, makes_point, next_pid, is_live, live_of, live_after, mapped, unmapped}
+use Rattle.ann_types.specs.Lists.{BasedList, with_entry, with_entries, makes_point, next_pid, is_live, live_of, mapped, unmapped}
 use Rattle.ann_types.specs.declared.params.Params.{Params}
 use Rattle.ann_types.specs.declared.change.Change.{Change}
 use Rattle.ann_types.specs.declared.change.Change.TheVariants.{Insert, Delete, Replace}

@@ -1,10 +1,10 @@
 -- What a session's search finds: the hits of its list, whose points are all in memory.
-use Rattle.std.proofs.Common.{◌≡◌, ℕ, List, [], ◌∷◌, ◌++◌, refl, sym, ap, ◌∙◌, map, length, cond, eqb, eq-eqb, true}
+use Rattle.std.proofs.Common.{◌≡◌, ℕ, List, [], ◌∷◌, ◌++◌, refl, sym, ap, ◌∙◌, map, length, cond, eq-eqb}
 use Rattle.std.specs.Prelude.{flat_map}
 use Rattle.ann_types.specs.Answer.{hits, hit, found}
 use Rattle.ann_types.specs.Codes.{Book}
 use Rattle.ann_types.specs.Fold.{State, all_points, fold_of}
-use Rattle.ann_types.specs.Graph.{Point, Graph, empty_graph, far_from, tag_of, near_to}
+use Rattle.ann_types.specs.Graph.{Point, Graph, empty_graph, far_from, tag_of}
 use Rattle.ann_types.specs.Index.{Index}
 use Rattle.ann_types.specs.Lists.{BasedList, length_of}
 use Rattle.ann_types.specs.Merge.{without}
@@ -12,14 +12,11 @@ use Rattle.ann_types.specs.Order.{top}
 use Rattle.ann_types.specs.declared.ask.Ask.{Ask}
 use Rattle.ann_types.specs.declared.hit.Hit.{Hit}
 use Rattle.ann_types.specs.declared.params.Params.{Params}
-use Rattle.ann_script.specs.declared.reply.Reply.{Reply}
 use Rattle.ann_script.specs.declared.reply.Reply.TheVariants.{Found, Search}
 use Rattle.ann_script.specs.declared.reply.SearchWord.TheVariants.{Dimension}
 use Rattle.ann_beam.specs.Ranking.{rank, hit_of}
 use Rattle.ann_view.specs.Search.{near_memory, near_result}
-use Rattle.ann_view.specs.View.{index_of, whole}
-use Rattle.ann_view.specs.Stands.{lti_of}
-use Rattle.ann_program.specs.Book.{zeros}
+use Rattle.ann_view.specs.View.{index_of}
 use Rattle.ann_program.specs.Once.{once_index, search_reply}
 use Rattle.ann_program.specs.Session.{Keeps}
 use Rattle.ann_program.specs.declared.session.Session.{Session}

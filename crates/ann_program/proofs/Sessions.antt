@@ -1,27 +1,24 @@
 -- What a session keeps, one change on.
-use Rattle.std.proofs.Common.{◌≡◌, ◌≤◌, ◌<◌, ℕ, ◌+◌, Bool, true, false, cond, not, eqb, ltb, ◌&&◌, Option, Some, None, is_none, is_some, List, [], ◌∷◌, refl, sym, ap, subst, ◌∙◌, arith, length, eqb-true, ltb-true}
+use Rattle.std.proofs.Common.{◌≡◌, ◌≤◌, ◌<◌, ℕ, Bool, true, false, cond, not, eqb, ltb, ◌&&◌, Option, Some, None, is_none, is_some, List, [], ◌∷◌, refl, sym, ap, subst, ◌∙◌, arith, length, eqb-true, ltb-true}
 use Rattle.std.specs.FinMap.{get, len}
 use Rattle.std.proofs.lemmas.Bool.{and_from, and_parts}
 use Rattle.ann_types.specs.Fold.{State, frozen, grown, step, fold_of, deleted}
-use Rattle.ann_types.specs.Graph.{Graph, empty_graph}
+use Rattle.ann_types.specs.Graph.{Graph}
 use Rattle.ann_types.specs.Index.{Index}
 use Rattle.ann_types.specs.Judge.{entry_of, judge}
 use Rattle.ann_types.specs.Legal.{pid_end, may_follow, is_legal}
 use Rattle.ann_types.specs.Lists.{BasedList, ListBase, IsBaseOf, empty_base, with_entry, next_pid, is_live, live_of, live_after, pids_at}
 use Rattle.ann_types.specs.Put.{put}
 use Rattle.ann_types.specs.declared.params.Params.{Params}
-use Rattle.ann_types.specs.declared.entry.Entry.{Entry}
 use Rattle.ann_types.specs.declared.change.Change.{Change}
 use Rattle.ann_types.specs.declared.change.Change.TheVariants.{Insert, Delete, Replace}
 use Rattle.ann_types.proofs.Sets.{increasing_from_rises}
 use Rattle.ann_types.proofs.Folds.{fold_push, legal_push, live_push}
 use Rattle.ann_types.proofs.Judged.{judged}
-use Rattle.ann_types.proofs.Tagged.{TagsDiffer, next_pid_ends, tags_differ}
+use Rattle.ann_types.proofs.Tagged.{next_pid_ends, tags_differ}
 use Rattle.ann_tags.specs.Tags.{Pids, map_of}
 use Rattle.ann_tags.proofs.Maps.{live_is, found_none, pids_found, count_is}
-use Rattle.ann_vault.specs.declared.memory.MemorySeal.{MemorySeal}
 use Rattle.ann_pq.specs.Codebook.{Shown as ShownBook}
-use Rattle.ann_view.specs.View.{Shown}
 use Rattle.ann_view.specs.Stands.{StandsFor}
 use Rattle.ann_view.specs.Steps.{FitsIn}
 use Rattle.ann_program.specs.Book.{zeros}

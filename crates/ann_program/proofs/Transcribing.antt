@@ -1,5 +1,5 @@
 -- The transcript of a client's commands, line by line.
-use Rattle.std.proofs.Common.{◌≡◌, ◌≤◌, ℕ, ◌+◌, ◌*◌, List, [], ◌++◌, sym, ap, ◌∙◌, length, drop}
+use Rattle.std.proofs.Common.{◌≡◌, ◌≤◌, ℕ, ◌+◌, ◌*◌, List, ◌++◌, sym, ap, ◌∙◌, length, drop}
 use Rattle.std.proofs.lemmas.List.{drop_all}
 use Rattle.ann_types.specs.Lists.{BasedList, length_of, live_of, empty_list}
 use Rattle.ann_types.specs.declared.params.Params.{Params}

@@ -7,7 +7,7 @@ use Rattle.std.specs.Prelude.{replicate, nat_lt, Err}
 use Rattle.std.specs.List.{range_with_len, starts_with}
 use Rattle.ann_bytes.specs.LittleEndian.{number_of, bytes_of, field}
 use Rattle.ann_bytes.proofs.Numbers.{number_of-bytes_of}
-use Rattle.ann_pq.specs.Format.{magic, fault, named, book_in, centroid_in, centroids_in}
+use Rattle.ann_pq.specs.Format.{magic, fault, named, book_in, centroid_in}
 use Rattle.ann_pq.specs.declared.refused.CodebookRefused.TheVariants.{Length, Magic, Shape, Memory}
 use Rattle.ann_pq.specs.declared.refused.CodebookRefused.{CodebookRefused}
 use Rattle.ann_program.specs.Book.{zeros, zero_bytes}

@@ -1,5 +1,5 @@
 -- Which scripts the program serves: all that the grammar of `once` lets through.
-use Rattle.std.specs.Prelude.{◌≡◌, ℕ, ◌≤◌, ◌^◌, List, length}
+use Rattle.std.specs.Prelude.{ℕ, ◌≤◌, ◌^◌, length}
 use Rattle.std.specs.List.{AllByRecursion}
 use Rattle.ann_script.specs.Order.{Order, Apply, Find}
 use Rattle.ann_script.specs.Script.{Client}

@@ -1,4 +1,4 @@
-use Rattle.std.proofs.Common.{◌≡◌, ℕ, List, ◌++◌, ap, ◌∙◌}
+use Rattle.std.proofs.Common.{◌∙◌}
 use Rattle.ann_program.proofs.Zeros.{joined_is}
 use Rattle.ann_program.proofs.book.zero_bytes.Goals as goal
 

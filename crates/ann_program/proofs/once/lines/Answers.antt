@@ -1,4 +1,4 @@
-use Rattle.std.proofs.Common.{List, ◌++◌, ◌≡◌, ℕ, ◌+◌, ◌≤◌, sym, ap, ◌∙◌, subst, arith, map, drop, length, refl}
+use Rattle.std.proofs.Common.{List, ◌++◌, ℕ, ◌+◌, ◌≤◌, sym, ap, ◌∙◌, subst, arith, map, drop, refl}
 use Rattle.std.proofs.lemmas.List.{length-map}
 use Rattle.ann_types.specs.Lists.{BasedList, length_of, empty_list}
 use Rattle.ann_types.specs.declared.params.Params.{Params}

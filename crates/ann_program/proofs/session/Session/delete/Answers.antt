@@ -1,9 +1,9 @@
-use Rattle.std.proofs.Common.{◌≡◌, refl, sym, ap, ◌∙◌}
+use Rattle.std.proofs.Common.{refl, sym, ap, ◌∙◌}
 use Rattle.std.specs.FinMap.{remove}
-use Rattle.ann_types.specs.Lists.{BasedList, live_of, next_pid}
+use Rattle.ann_types.specs.Lists.{live_of}
 use Rattle.ann_types.specs.declared.change.Change.TheVariants.{Delete}
 use Rattle.ann_types.specs.declared.entry.Entry.TheVariants.{Delete as DeleteEntry}
-use Rattle.ann_tags.specs.Tags.{Pids, Shown, map_of}
+use Rattle.ann_tags.specs.Tags.{Pids, Shown}
 use Rattle.ann_tags.proofs.Maps.{unmapped_is}
 use Rattle.ann_program.proofs.Sessions.{delete_there, pid_is, keeps_more}
 use Rattle.ann_program.proofs.session.Session.delete.Goals as goal

@@ -1,11 +1,11 @@
-use Rattle.std.proofs.Common.{◌≡◌, ℕ, List, refl, sym, ap, ◌∙◌}
+use Rattle.std.proofs.Common.{ℕ, refl, sym, ap, ◌∙◌}
 use Rattle.std.specs.FinMap.{insert, get}
-use Rattle.ann_types.specs.Lists.{BasedList, live_of, next_pid, mapped}
+use Rattle.ann_types.specs.Lists.{live_of, mapped}
 use Rattle.ann_types.specs.declared.change.Change.TheVariants.{Insert}
 use Rattle.ann_types.specs.declared.entry.Entry.TheVariants.{Insert as InsertEntry}
 use Rattle.ann_tags.specs.Tags.{Pids, Shown, map_of}
 use Rattle.ann_tags.proofs.Maps.{mapped_is}
-use Rattle.ann_program.proofs.Sessions.{insert_absent, insert_fits, keeps_more}
+use Rattle.ann_program.proofs.Sessions.{insert_absent, keeps_more}
 use Rattle.ann_program.proofs.session.Session.insert.Goals as goal
 
 pub insert-requires-clause-absent : goal.insert-requires-clause-absent

@@ -1,11 +1,11 @@
-use Rattle.std.proofs.Common.{◌≡◌, ℕ, List, refl, sym, ap, ◌∙◌}
-use Rattle.std.specs.FinMap.{insert, remove, get}
-use Rattle.ann_types.specs.Lists.{BasedList, live_of, next_pid, mapped}
+use Rattle.std.proofs.Common.{ℕ, refl, sym, ap, ◌∙◌}
+use Rattle.std.specs.FinMap.{insert, get}
+use Rattle.ann_types.specs.Lists.{live_of, mapped}
 use Rattle.ann_types.specs.declared.change.Change.TheVariants.{Replace}
 use Rattle.ann_types.specs.declared.entry.Entry.TheVariants.{Replace as ReplaceEntry}
 use Rattle.ann_tags.specs.Tags.{Pids, Shown, map_of}
 use Rattle.ann_tags.proofs.Maps.{mapped_is, gone, replaced}
-use Rattle.ann_program.proofs.Sessions.{replace_there, replace_fits, pid_is, keeps_more}
+use Rattle.ann_program.proofs.Sessions.{replace_there, pid_is, keeps_more}
 use Rattle.ann_program.proofs.session.Session.replace.Goals as goal
 
 pub unreachable-requires : goal.unreachable-requires

@@ -1,4 +1,4 @@
-use Rattle.std.proofs.Common.{◌≡◌, refl, ap, ◌∙◌, map}
+use Rattle.std.proofs.Common.{refl, ap, ◌∙◌, map}
 use Rattle.ann_beam.specs.Ranking.{Shown, hit_of}
 use Rattle.ann_program.proofs.Searching.{reply_is}
 use Rattle.ann_program.proofs.session.Session.search.Goals as goal

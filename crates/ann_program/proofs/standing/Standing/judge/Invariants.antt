@@ -1,4 +1,3 @@
-use Rattle.std.proofs.Common.{◌≡◌}
 use Rattle.ann_types.specs.Lists.{BasedList}
 use Rattle.ann_program.specs.Standing.{KnowsOf}
 use Rattle.ann_program.proofs.Living.{Judging}
