@@ -1,12 +1,10 @@
-use Rattle.std.proofs.Common.{◌≡◌, ◌≤◌, ◌<◌, ◌++◌, ◌∷◌, [], ℕ, zero, suc, List, length, true, false, sym, ap, refl, subst, ◌∙◌, arith}
+use Rattle.std.proofs.Common.{◌++◌, [], ℕ, List, refl, subst, ◌∙◌, arith}
 use Rattle.std.proofs.lemmas.Result.{err_from_is_err_and}
-use Rattle.ann_greedy.specs.Shows.{AreFar, AreRows, ShowsWalk}
+use Rattle.ann_greedy.specs.Shows.{AreFar}
 use Rattle.ann_types.specs.Walk.{Ground}
 use Rattle.ann_types.specs.Rounds.{round}
 use Rattle.ann_greedy.proofs.Pooling.{shows_none}
-use Rattle.ann_beam.specs.Progress.{IsRound}
-use Rattle.ann_beam.specs.Visits.{far_row, ground_in, point_in}
-use Rattle.ann_beam.specs.Desk.{progress}
+use Rattle.ann_beam.specs.Visits.{far_row, ground_in}
 use Rattle.ann_beam.proofs.Rounding.{round_along, way_begins, way_goes_on, way_ends, reads_behind, reads_after}
 use Rattle.ann_beam.proofs.rounds.make_rounds.Goals as goal
 
