@@ -176,12 +176,12 @@ module _ {S : Type 0} (params : Params) (book : Book) (bytes : List ℕ) (segmen
         let pid : pid_at (decoded_points book graph.points) entry ≡ got.0 = ap (λ (xs : List ℕ). get_or xs entry 0) same_pids ∙ got.3 in
         let count = holds_count params book bytes segment graph h in (
           ap (rounds_from book graph.points query width w) got.1
-          ∙ ap (λ (p : ℕ). rounds_of (ground (decoded_points book graph.points) query p) width w (length graph.points)) (sym pid)
-          ∙ rounds_map (pid_at (decoded_points book graph.points)) (length (decoded_points book graph.points)) g (ground (decoded_points book graph.points) query (pid_at (decoded_points book graph.points) entry)) w' width w (length graph.points)
-          ∙ ap (λ (xs : List ℕ). map (λ r. get_or xs r 0) (rounds_of g width w (length graph.points))) same_pids
-          ∙ ap (λ (n : ℕ). map (pid_at graph.points) (rounds_of g width w n)) (sym count),
+              ∙ ap (λ (p : ℕ). rounds_of (ground (decoded_points book graph.points) query p) width w (length graph.points)) (sym pid)
+              ∙ rounds_map (pid_at (decoded_points book graph.points)) (length (decoded_points book graph.points)) g (ground (decoded_points book graph.points) query (pid_at (decoded_points book graph.points) entry)) w' width w (length graph.points)
+              ∙ ap (λ (xs : List ℕ). map (λ r. get_or xs r 0) (rounds_of g width w (length graph.points))) same_pids
+              ∙ ap (λ (n : ℕ). map (pid_at graph.points) (rounds_of g width w n)) (sym count),
           subst (λ (n : ℕ). Below n (rounds_of g width w (length segment.items))) same_count
-          (below_rounds (pid_at (decoded_points book graph.points)) (length (decoded_points book graph.points)) g (ground (decoded_points book graph.points) query (pid_at (decoded_points book graph.points) entry)) w' width w (length segment.items)),
+              (below_rounds (pid_at (decoded_points book graph.points)) (length (decoded_points book graph.points)) g (ground (decoded_points book graph.points) query (pid_at (decoded_points book graph.points) entry)) w' width w (length segment.items)),
         )
 
     -- What was ranked is what the definition ranks.

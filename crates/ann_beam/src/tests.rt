@@ -60,12 +60,7 @@ fn text(alloc: Global, at: usize, byte: u8) -> Result<Vec<u8>, AllocError> {
 }
 
 // The segment of these bytes.
-fn segment(
-    alloc: Global,
-    params: &Params,
-    at: usize,
-    byte: u8,
-) -> Result<Segment<MemorySeal>, Fail>
+fn segment(alloc: Global, params: &Params, at: usize, byte: u8) -> Result<Segment<MemorySeal>, Fail>
     ensures { IfOk result (λ segment. segment.m ≡ params.now.m) }
 {
     let bytes = text(alloc, at, byte)?;
@@ -82,7 +77,14 @@ fn segment(
 
 /// How many hits are wanted, the deleted Pid, which call of the eye fails, which byte of the segment is another, and
 /// what is found at 9.
-const BEAMS: [(u16, u32, u64, usize, u8, Result<&[(u64, u32)], SearchRefused>); 7] = [
+const BEAMS: [(
+    u16,
+    u32,
+    u64,
+    usize,
+    u8,
+    Result<&[(u64, u32)], SearchRefused>,
+); 7] = [
     // Both are equally far, whereas by their codes the second is nearer.
     (2, 9, 3, 0, b'A', Ok(&[(1, 1), (2, 1)])),
     (1, 9, 3, 0, b'A', Ok(&[(1, 1)])),
@@ -91,7 +93,14 @@ const BEAMS: [(u16, u32, u64, usize, u8, Result<&[(u64, u32)], SearchRefused>); 
     // Two blocks are read, so the second call of the eye is there to fail, with a deleted point too.
     (2, 9, 2, 0, b'A', Err(SearchRefused::Disk)),
     (2, 1, 2, 0, b'A', Err(SearchRefused::Disk)),
-    (2, 9, 3, 12288, 7, Err(SearchRefused::BadSegment { block: 3 })),
+    (
+        2,
+        9,
+        3,
+        12288,
+        7,
+        Err(SearchRefused::BadSegment { block: 3 }),
+    ),
 ];
 
 #[test]
@@ -109,7 +118,10 @@ fn beams_of_two_points(rt: HostRuntime) -> Result<(), Fail> {
         let found = beam(&segment, &book, &mut eye, &mut desk, &ask, &params, &dead);
         let hits = desk.hits().iter().map(|hit: &Hit| (hit.tag, hit.distance));
         let hits = hits.collect::<Vec<_>>(rt.alloc())?;
-        assert!(rt; found.map(|()| hits.as_slice()) == wanted, "{k} {deleted} {failing} {at}");
+        assert!(rt;
+            found.map(|()| hits.as_slice()) == wanted,
+            "{k} {deleted} {failing} {at}"
+        );
         assert_eq!(rt; desk.page().len(), 4096);
     }
     Ok(())

@@ -33,11 +33,10 @@ loop-turn-preserved g c =
       rows = e.rows;
       under_way = λ tells.
           let way = w.under_way tells in
-          let g' : Ground = ground_in segment (g.S.Sealed.bytes segment.seal) c.args.params.now.d c.args.desk.now.tables c.args.entry in
-          (
+          let g' : Ground = ground_in segment (g.S.Sealed.bytes segment.seal) c.args.params.now.d c.args.desk.now.tables c.args.entry in (
             way.0 ++ round g' c.loop-turn.desk.guided.limit c.args.params.now.w way.0,
             way_goes_on g' _ _ _ _ _ _ _ _ _ _ _ _ way.1 (omega (arith, c.loop-turn-test.true)) w.width
-            (round_along c.args.segment.now (g.S.Sealed.bytes c.args.segment.now.seal) _ _ _ _ _ _ _ _ c.args.entry way.0 _ _ _ _ w.tables w.limit c.if-not-branch.false (e.round tells c.args.entry way.0) way.1.shows),
+                (round_along c.args.segment.now (g.S.Sealed.bytes c.args.segment.now.seal) _ _ _ _ _ _ _ _ c.args.entry way.0 _ _ _ _ w.tables w.limit c.if-not-branch.false (e.round tells c.args.entry way.0) way.1.shows),
           );
       counted = reads_after e.counted.0 w.counted.0 _ _ _ w.counted.1 e.counted.1;
       later = omega (arith, w.later, e.later);
