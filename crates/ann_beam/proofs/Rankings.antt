@@ -1,12 +1,13 @@
 -- Pids and hits side by side, and the place of a point among them.
-use Rattle.std.proofs.Common.{◌≡◌, ℕ, zero, suc, ◌≤◌, ◌<◌, Bool, true, false, cond, eqb, List, [], ◌∷◌, ◌++◌, ◌||◌, refl, sym, ap, ◌∙◌, subst, arith, take, map, length, get_or, eqb-true, eq-eqb}
+use Rattle.std.proofs.Common.{◌≡◌, ℕ, zero, suc, ◌≤◌, ◌<◌, Bool, true, false, cond, eqb, List, [], ◌∷◌, ◌++◌, ◌||◌, refl, sym, ap, ◌∙◌, subst, arith, take, map, length, get_or, inl, inr, eqb-true, eq-eqb}
 use Rattle.std.specs.Prelude.{insert}
-use Rattle.std.specs.List.{AllByRecursion}
-use Rattle.std.proofs.lemmas.List.{take-map}
-use Rattle.std.proofs.lemmas.Bool.{false≢true, ne_eqb, both_ways, false_from_ne_true}
+use Rattle.std.specs.List.{AllByRecursion, IsDistinct}
+use Rattle.std.proofs.lemmas.Map.Keys.{IsDistinct-head, IsDistinct-tail}
+use Rattle.std.proofs.lemmas.List.{take-map, take_all}
+use Rattle.std.proofs.lemmas.Bool.{false≢true, or_from, ne_eqb, both_ways, false_from_ne_true}
 use Rattle.ann_types.specs.declared.hit.Hit.{Hit}
 use Rattle.ann_types.specs.Order.{before, has, placed, all_placed, in_order, top}
-use Rattle.ann_types.proofs.Ordered.{cut_placed, all_placed-append, has_placed, has_in_order, has_from_take}
+use Rattle.ann_types.proofs.Ordered.{has_here, has_later, has_cases, cut_placed, all_placed-append, has_placed, has_in_order, has_from_take}
 use Rattle.ann_pool.specs.declared.item.Item.{Item}
 use Rattle.ann_pool.proofs.Orders.{Precedes, before_tells, before_from, before-asymmetric}
 use Rattle.ann_dead.specs.Pids.{has as is_dead}
@@ -173,6 +174,25 @@ pub all_ranked : (far tag : ℕ → ℕ) (n : ℕ) (pids more : List ℕ) → Ar
 all_ranked far tag n pids more a =
     all_placed_new far tag n more (in_order far pids) pids (λ z. has_in_order far z pids) a
     ∙ ap (λ t. map (rank far tag) (take n t)) (sym (all_placed-append far [] pids more))
+
+-- Points that are added one by one to none leave the least of them.
+pub ranked_from_none : (far tag : ℕ → ℕ) (n : ℕ) (pids : List ℕ) → AreNew [] pids → with_all n (map (rank far tag) pids) [] ≡ map (rank far tag) (top far n pids)
+ranked_from_none far tag n pids a =
+    ap (λ (t : List ℕ). with_all n (map (rank far tag) pids) (map (rank far tag) t)) (sym (take_all n [] (omega arith)))
+    ∙ all_ranked far tag n [] pids a
+
+-- Pids that differ and aren't there are new.
+pub new_from_distinct : (there more : List ℕ) → IsDistinct eqb more → ((p : ℕ) → has more p ≡ true → has there p ≡ false) → AreNew there more
+new_from_distinct there [] d apart = tt
+new_from_distinct there (p ∷ more) d apart =
+    (apart p (has_here p p more (eq-eqb p p refl)), new_from_distinct (p ∷ there) more (IsDistinct-tail eqb p more d) (λ q h. or_from (eqb q p) (has there q) (other q more (IsDistinct-head eqb p more d) h) (apart q (has_later p q more h))))
+  where
+    other : (q : ℕ) (s : List ℕ) → AllByRecursion (λ y. eqb p y ≡ false) s → has s q ≡ true → eqb q p ≡ false
+    other q [] a h = absurd (false≢true h)
+    other q (y ∷ s) (k, a) h = elim (has_cases y q s h) [
+      | inl e ↦ ne_eqb q p (λ same. both_ways (eqb p y) k (eq-eqb p y (sym same ∙ eqb-true q y e)))
+      | inr m ↦ other q s a m
+    ]
 
 pub with_all-append : (n : ℕ) (xs ys s : List Ranked) → with_all n (xs ++ ys) s ≡ with_all n ys (with_all n xs s)
 with_all-append n [] ys s = refl
