@@ -7,7 +7,7 @@ use Rattle.ann_disk.specs.File.{Torn, Cut, BeginsAnImage, overwritten}
 use Rattle.ann_preamble.specs.Preamble.{preamble_of}
 use Rattle.ann_preamble.proofs.Agreed.{shut, fronts}
 use Rattle.ann_bytes.specs.LittleEndian.{with_field}
-use Rattle.ann_log.specs.Anew.{IsUnmade, StaysShut, opened, IsUnmadeOr}
+use Rattle.ann_log.specs.Anew.{IsUnmade, StaysShut, IsHead, opened, IsUnmadeOr}
 
 -- ---- no preamble
 
@@ -86,3 +86,25 @@ module _ (gate : ℕ) (old frame : List ℕ) (ends : length old ≡ gate + 1) wh
   -- the two writes of it
   pub frame_put : (mid new : List ℕ) → mid ≡ overwritten old (gate + 1) frame → new ≡ overwritten mid gate (1 ∷ []) → new ≡ take gate old ++ 1 ∷ frame
   frame_put mid new first second = second ∙ ap (λ (l : List ℕ). overwritten l gate (1 ∷ [])) (first ∙ behind) ∙ at_gate
+
+-- ---- a head behind a made byte
+
+pub first_shut : (n : ℕ) (u v : Unsynced) (old : List ℕ) → v ≡ after_write 1 n u → u ≡ clean old → old ≡ 0 ∷ [] → StaysShut v
+first_shut n u v old is rest cleared =
+    shut_by 1 n (clean (0 ∷ [])) v (is ∙ ap (after_write 1 n) (rest ∙ ap clean cleared)) (omega arith) (shut_clean [])
+
+pub head_last : (head : List ℕ) → IsHead head → head ≡ take (length head - 1) head ++ 0 ∷ []
+head_last head (fields, is) =
+    is
+    ∙ ap (λ (l : List ℕ). l ++ 0 ∷ []) (sym (take_at (0 ∷ fields) (0 ∷ []) (length head - 1) (let long = ap length is in omega (arith, long, length-append (0 ∷ fields) (0 ∷ []))))
+    ∙ ap (take (length head - 1)) (sym is))
+
+pub head_put : (head old mid : List ℕ) → IsHead head → old ≡ 0 ∷ [] → mid ≡ overwritten old 1 (take (length head - 1) (drop 1 head)) → mid ≡ head
+head_put head old mid (fields, is) cleared put =
+    let rest : take (length head - 1) (drop 1 head) ≡ fields ++ 0 ∷ [] = take_all (length head - 1) (drop 1 head) (omega (arith, length-drop 1 head)) ∙ ap (drop 1) is in
+    put
+    ∙ ap (λ (l : List ℕ). overwritten l 1 (take (length head - 1) (drop 1 head))) cleared
+    ∙ ap (λ (l : List ℕ). overwritten (0 ∷ []) 1 l) rest
+    ∙ ap (λ (l : List ℕ). 0 ∷ fields ++ 0 ∷ [] ++ l) (drop_all (1 + length (fields ++ 0 ∷ [])) (0 ∷ []) (omega arith))
+    ∙ append-nil (0 ∷ fields ++ 0 ∷ [])
+    ∙ sym is

@@ -4,7 +4,7 @@ use Rattle.std.specs.List.{AllByRecursion}
 use Rattle.ann_types.specs.declared.entry.Entry.{Entry}
 use Rattle.ann_disk.specs.Image.{Unsynced, IsFree}
 use Rattle.ann_disk.specs.File.{BeginsAnImage}
-use Rattle.ann_frame.specs.Frames.{AreFrames}
+use Rattle.ann_frame.specs.Frames.{IsFrame, frames_bytes, entries_of}
 use Rattle.ann_preamble.specs.Preamble.{preamble_of}
 
 -- the bytes have no preamble
@@ -19,8 +19,11 @@ pub record StaysShut (u : Unsynced) : Type 0 where
 
 -- the bytes are those of frames of at most 64 entries, which have these entries
 pub record AreTail (d : ℕ) (bytes : List ℕ) (entries : List Entry) : Type 0 where
-  pub are : AreFrames d bytes entries
-  pub few : AllByRecursion (λ frame. length frame ≤ 64) are.frames
+  pub frames : List (List Entry)
+  pub each : AllByRecursion (IsFrame d) frames
+  pub few : AllByRecursion (λ frame. length frame ≤ 64) frames
+  pub spelled : bytes ≡ frames_bytes frames
+  pub joined : entries ≡ entries_of frames
 
 -- so many bytes of some, then the frames of a tail, and a last gate 0, which stands at the place
 pub record HoldsTail (tells : Type 0) (d : ℕ) (start : ℕ) (old : List ℕ) (tail : List Entry) (gate : ℕ) (seen : List ℕ) : Type 0 where
