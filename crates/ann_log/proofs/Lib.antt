@@ -1,2 +1,9 @@
+pub mod Behind
+pub mod Gates
+pub mod Opening
+pub mod Pairs
+pub mod Sizes
+pub mod Standing
 pub mod Tails
+pub mod Texts
 pub mod Writing

@@ -1,11 +1,12 @@
 -- One file of a log while it is written anew.
-use Rattle.std.specs.Prelude.{◌≡◌, ◌⊎◌, ◌<◌, ◌≤◌, ◌+◌, ◌-◌, ◌^◌, ℕ, List, [], ◌∷◌, ◌++◌, length, take, drop, None, slice_index_or}
+use Rattle.std.specs.Prelude.{◌≡◌, ◌⊎◌, ◌<◌, ◌≤◌, ◌+◌, ◌-◌, ◌^◌, ℕ, List, [], ◌∷◌, ◌++◌, length, take, drop, ◌≢◌, ◌*◌, None, Some, slice_index_or}
 use Rattle.std.specs.List.{AllByRecursion}
 use Rattle.ann_types.specs.declared.entry.Entry.{Entry}
 use Rattle.ann_disk.specs.Image.{Unsynced, IsFree}
 use Rattle.ann_disk.specs.File.{BeginsAnImage}
-use Rattle.ann_frame.specs.Frames.{IsFrame, frames_bytes, entries_of}
-use Rattle.ann_preamble.specs.Preamble.{preamble_of}
+use Rattle.ann_frame.specs.Frames.{IsFrame, AreFrames, frames_bytes, entries_of}
+use Rattle.ann_preamble.specs.Preamble.{Said, preamble_of}
+use Rattle.ann_log.specs.Text.{first_gate}
 
 -- the bytes have no preamble
 abbrev pub IsUnmade : List ℕ → Type 0
@@ -59,4 +60,32 @@ IsUnmadeOrWhole d head tail bytes = IsUnmade bytes ⊎ IsWhole d head tail bytes
 
 -- the front of what might have been left before, no preamble, or these
 abbrev pub IsFrontOrWhole : Unsynced → ℕ → List ℕ → List Entry → List ℕ → Type 0
-IsFrontOrWhole before d head tail bytes = IsFrontOrUnmade before bytes ⊎ IsWhole d head tail bytes
+IsFrontOrWhole before d head tail bytes = BeginsAnImage before bytes ⊎ IsUnmadeOrWhole d head tail bytes
+
+-- ---- by what it says
+
+-- a preamble that says s, frames with these entries, and a gate that isn't open
+pub record IsText (s : Said) (entries : List Entry) (bytes : List ℕ) : Type 0 where
+  pub head : List ℕ
+  pub front : List ℕ
+  pub shown : ℕ
+  pub spelled : bytes ≡ head ++ (front ++ shown ∷ [])
+  pub place : length head ≡ first_gate s
+  pub frames : AreFrames s.fields.d front entries
+  pub shut : shown ≢ 1
+  pub says : preamble_of bytes ≡ Some s
+
+-- the file is such a text, and its last gate stands at this place
+pub record HoldsText (tells : Type 0) (s : Said) (entries : List Entry) (gate : ℕ) (seen : List ℕ) : Type 0 where
+  pub text : tells → IsText s entries seen
+  pub last : tells → gate + 1 ≡ length seen
+  pub end : gate + 1 < 2 ^ 64
+  pub few : 5 * length entries ≤ gate
+
+-- no preamble, or such a text
+abbrev pub IsUnmadeOrText : Said → List Entry → List ℕ → Type 0
+IsUnmadeOrText s entries bytes = IsUnmade bytes ⊎ IsText s entries bytes
+
+-- the front of what might have been left before, no preamble, or such a text
+abbrev pub IsFrontOrText : Unsynced → Said → List Entry → List ℕ → Type 0
+IsFrontOrText before s entries bytes = BeginsAnImage before bytes ⊎ IsUnmadeOrText s entries bytes

@@ -4,11 +4,16 @@ ghost use Rattle.ann_disk.specs.Causes.{HasCause};
 ghost use Rattle.ann_disk.specs.File.{LeavesOnly};
 ghost use Rattle.ann_disk.specs.Image.{clean};
 ghost use Rattle.ann_frame.specs.Frames.{AreEntries, HaveComponents, frame_bytes};
-ghost use Rattle.ann_log.specs.Anew.{IsUnmade, StaysShut, HoldsTail, IsHead, opened, IsUnmadeOr, IsFrontOrUnmade, IsUnmadeOrWhole, IsFrontOrWhole};
+ghost use Rattle.ann_log.specs.Anew.{IsUnmade, StaysShut, HoldsTail, IsHead, opened, IsUnmadeOr, IsFrontOrUnmade, IsUnmadeOrWhole, IsFrontOrWhole, HoldsText, IsUnmadeOrText, IsFrontOrText};
+ghost use Rattle.ann_log.specs.LogView.{HasRoom, IsSaid};
+ghost use Rattle.ann_log.specs.Text.{said_in};
 
 use ann_disk::{Failed, LogFile, cut_any, write_synced};
+use crate::room::Room;
 use ann_frame::write_frame;
-use ann_types::Entry;
+use ann_pq::Codebook;
+use ann_preamble::{Base, write};
+use ann_types::{Entry, Params};
 
 /// The most entries of a frame.
 const MOST: usize = 64;
@@ -177,4 +182,39 @@ pub(crate) fn write_anew<F: LogFile>(
 {
     clear(file)?;
     fill(file, head, tail, d, frame)
+}
+
+/// Writes a file anew: the preamble that says this, and the entries behind it. Takes no memory. Gives the place of the
+/// last gate.
+pub(crate) fn write_text<F: LogFile>(
+    file: &mut F,
+    room: &mut Room,
+    params: &Params,
+    book: &Codebook,
+    base: &Base,
+    generation: u64,
+    entries: &[Entry],
+) -> Result<u64, Failed>
+    requires room { HasRoom params.now.d room.old.frame.items room.old.preamble.items }
+    requires said { IsSaid (said_in params.now book.now base.now generation) }
+    requires generation { 1 ≤ generation }
+    requires each { HaveComponents params.now.d entries.now }
+    ensures room { HasRoom params.now.d room.new.frame.items room.new.preamble.items }
+    ensures text { IfOk result (λ gate. HoldsText F.tells (said_in params.now book.now base.now generation) entries.now gate (F.seen file.new)) }
+    ensures rest { F.tells → OnOk result (F.unsynced file.new ≡ clean (F.seen file.new)) }
+    // A crash meanwhile leaves the front of what it might have left before, no preamble, or this text.
+    ensures during { F.tells → LeavesOnly F.past F.unsynced file.old file.new (IsFrontOrText (F.unsynced file.old) (said_in params.now book.now base.now generation) entries.now) }
+    // Where a read gave no preamble it gives none, or this text.
+    ensures read { F.tells → IsUnmade (F.seen file.old) → IsUnmadeOrText (said_in params.now book.now base.now generation) entries.now (F.seen file.new) }
+    ensures cause { HasCause (F.faults file.old) (F.faults file.new) result }
+{
+    book.known();
+    write(params, book.bytes(), base, generation, &mut room.preamble);
+    write_anew(
+        file,
+        &room.preamble,
+        entries,
+        params.d,
+        &mut room.frame,
+    )
 }

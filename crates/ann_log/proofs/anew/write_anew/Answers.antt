@@ -7,7 +7,7 @@ pub returns-in_err-clear-clause-during : goal.returns-in_err-clear-clause-during
 returns-in_err-clear-clause-during g c told =
     let D = g.F.LogFile in
     let old = c.args.file.now in
-    weaker D.past D.unsynced old c.clear.new.file (IsFrontOrUnmade (D.unsynced old)) (IsFrontOrWhole (D.unsynced old) c.args.d c.args.head.now c.args.tail.now) (λ bytes is. inl is) (c.clear.ensures.during told)
+    weaker D.past D.unsynced old c.clear.new.file (IsFrontOrUnmade (D.unsynced old)) (IsFrontOrWhole (D.unsynced old) c.args.d c.args.head.now c.args.tail.now) (λ bytes is. ⊎_elim (λ begins. inl begins) (λ unmade. inr (inl unmade)) is) (c.clear.ensures.during told)
 
 pub returns-clause-during : goal.returns-clause-during
 returns-clause-during g c told =
@@ -15,8 +15,8 @@ returns-clause-during g c told =
     let old = c.args.file.now in
     let mid = c.clear.new.file in
     let P = IsFrontOrWhole (D.unsynced old) c.args.d c.args.head.now c.args.tail.now in
-    let first = weaker D.past D.unsynced old mid (IsFrontOrUnmade (D.unsynced old)) P (λ bytes is. inl is) (c.clear.ensures.during told) in
-    let second = weaker D.past D.unsynced mid c.fill.new.file (IsUnmadeOrWhole c.args.d c.args.head.now c.args.tail.now) P (λ bytes is. ⊎_elim (λ unmade. inl (inr unmade)) (λ whole. inr whole) is) (c.fill.ensures.during told) in
+    let first = weaker D.past D.unsynced old mid (IsFrontOrUnmade (D.unsynced old)) P (λ bytes is. ⊎_elim (λ begins. inl begins) (λ unmade. inr (inl unmade)) is) (c.clear.ensures.during told) in
+    let second = weaker D.past D.unsynced mid c.fill.new.file (IsUnmadeOrWhole c.args.d c.args.head.now c.args.tail.now) P (λ bytes is. inr is) (c.fill.ensures.during told) in
     joined D.past D.unsynced old mid c.fill.new.file P first second
 
 pub returns-clause-read : goal.returns-clause-read

@@ -1,0 +1,1 @@
+use Rattle.ann_log.proofs.open.prepare.Goals as goal
