@@ -6,4 +6,5 @@ pub mod Sizes
 pub mod Standing
 pub mod Tails
 pub mod Texts
+pub mod Turning
 pub mod Writing
