@@ -1,5 +1,6 @@
 pub mod Behind
 pub mod Gates
+pub mod Nothing
 pub mod Opening
 pub mod Pairs
 pub mod Sizes
