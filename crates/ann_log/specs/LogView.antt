@@ -38,6 +38,15 @@ files_in Second log other = record { first = other; second = log }
 abbrev pub files_of : {F : Type 0} → LogView F → Files F
 files_of v = files_in v.side v.log v.other
 
+-- of two things, the one for the file on this side, and the one for the other file
+abbrev pub on_side : {X : Type 0} → Side → X → X → X
+on_side First first second = first
+on_side Second first second = second
+
+abbrev pub off_side : {X : Type 0} → Side → X → X → X
+off_side First first second = second
+off_side Second first second = first
+
 -- what the log holds
 abbrev pub held_of : {F : Type 0} → LogView F → Held
 held_of v = record { params = v.params; book = v.book; base = v.base; entries = v.list }

@@ -1,7 +1,9 @@
 -- What a crash leaves of two files.
 use Rattle.std.specs.Prelude.{◌≡◌, ℕ, List, [], ◌∷◌}
-use Rattle.ann_disk.specs.File.{LeavesOnly}
+use Rattle.ann_disk.specs.File.{LeavesOnly, Cut}
 use Rattle.ann_disk.specs.Image.{Unsynced, IsImage, EachImage}
+use Rattle.ann_preamble.specs.declared.choice.Side.{Side}
+use Rattle.ann_log.specs.LogView.{on_side, off_side}
 use Rattle.ann_log.specs.Text.{log_text}
 use Rattle.ann_log.specs.declared.files.Files.{Files}
 
@@ -33,6 +35,10 @@ pub record ReadAsBefore (u v : Unsynced) (first second : List ℕ) : Type 0 wher
   pub first_image : IsImage u one
   pub second_image : IsImage v two
   pub same : log_text first second ≡ log_text one two
+
+-- the log's file may be cut at this place, and the other one is as it was
+abbrev pub MayBeCut : Side → ℕ → List ℕ → List ℕ → List ℕ → List ℕ → Type 0
+MayBeCut side to first second one two = Cut to (on_side side first second) (on_side side one two) × (off_side side one two ≡ off_side side first second)
 
 -- they are images
 abbrev pub AreImages : Unsynced → Unsynced → List ℕ → List ℕ → Type 0

@@ -2,7 +2,7 @@
 ghost use Rattle.std.specs.Prelude.{◌≡◌, ◌≤◌, ◌⊎◌, IfOk, IfErr};
 ghost use Rattle.ann_disk.specs.Causes.{Rose};
 ghost use Rattle.ann_log.specs.Causes.{HaveLater, RoseIn};
-ghost use Rattle.ann_log.specs.Found.{IsFound, IsUsable, IsRefused};
+ghost use Rattle.ann_log.specs.Found.{held_in, IsFound, IsUsable, IsRefused};
 ghost use Rattle.ann_log.specs.LogView.{held_by};
 ghost use Rattle.ann_log.specs.Pairs.{AreUntouched, IsUntouched};
 ghost use Rattle.ann_log.specs.Text.{StandsFor, log_text};
@@ -39,12 +39,22 @@ pub fn inspect_log<F: LogFile>(alloc: Global, files: &mut Files<F>) -> Result<In
     ensures cause { IfErr result (λ why. why ≡ OpenWhy.Disk → RoseIn F.faults files.old files.new) }
 {
     let found = read_both(alloc, files)?;
-    Ok(Inspected {
-        params: found.preamble.params,
-        book: found.preamble.book,
-        base: found.preamble.base,
-        entries: found.entries,
-    })
+    Ok(of_found(found))
+}
+
+// What the log holds that was found.
+fn of_found(found: Found) -> Inspected
+    ensures { held_by result ≡ held_in found }
+{
+    let Found {
+        preamble, frames, ..
+    } = found;
+    Inspected {
+        params: preamble.params,
+        book: preamble.book,
+        base: preamble.base,
+        entries: frames.entries,
+    }
 }
 
 /// Reads both files.

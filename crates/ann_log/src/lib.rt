@@ -12,6 +12,7 @@ mod log_type;
 mod open;
 mod reading;
 mod refused;
+mod room;
 mod storing;
 
 pub use ann_frame::Entries;

@@ -11,16 +11,17 @@ ghost use Rattle.ann_log.specs.Pairs.{EachPair, LeavePairs, ReadAsBefore};
 ghost use Rattle.ann_log.specs.Text.{StandsFor, said_in, log_text};
 
 use crate::files::{Files, files_in, parted};
-use crate::open::{cut_behind, settle};
+use crate::open::prepare;
 use crate::reading::Found;
 use crate::refused::{Disk, OpenRefused, OpenWhy};
+use crate::room::Room;
 use crate::storing::store_frame;
 use ann_disk::{Failed, LogFile};
-use ann_frame::{Entries, frame_size, write_frame};
+use ann_frame::{Entries, write_frame};
 use ann_pq::Codebook;
-use ann_preamble::{Base, Side, size};
+use ann_preamble::{Base, Side};
 use ann_types::{Entry, Params};
-use std::alloc::{AllocError, Global};
+use std::alloc::Global;
 use std::marker::Model;
 
 /// A log in two files: parameters, a codebook, a base, and the entries behind it.
@@ -39,28 +40,6 @@ pub struct Log<F: LogFile> {
     pub(crate) count: u64,
     pub(crate) closed: bool,
     pub(crate) room: Room,
-}
-
-/// The bytes through which a log writes, so that it takes no memory later.
-#[derive(Drop)]
-pub(crate) struct Room {
-    // A frame of 64 entries.
-    pub(crate) frame: Vec<u8>,
-    // A preamble.
-    pub(crate) preamble: Vec<u8>,
-}
-
-impl Room {
-    /// Room for vectors of d components. The only error is want of memory.
-    pub(crate) fn new(alloc: Global, d: u16) -> Result<Room, AllocError>
-        ensures { IfOk result (λ room. HasRoom d room.frame.items room.preamble.items) }
-    {
-        let mut frame = Vec::new(alloc);
-        frame.resize(frame_size(d), 0)?;
-        let mut preamble = Vec::new(alloc);
-        preamble.resize(size(d), 0)?;
-        Ok(Room { frame, preamble })
-    }
 }
 
 impl<F: LogFile> Model for Log<F> {
@@ -101,24 +80,12 @@ impl<F: LogFile> Log<F> {
         ensures cause { IfErr result (λ refused. refused.why ≡ OpenWhy.Disk → RoseIn F.faults files refused.files) }
     {
         let mut files = files;
-        let found = match settle(alloc, &mut files) {
-            Ok(found) => found,
-            Err(why) => return Err(OpenRefused { why, files }),
-        };
-        let Ok(room) = Room::new(alloc, found.preamble.params.d) else {
-            return Err(OpenRefused {
-                why: OpenWhy::Memory,
-                files,
-            });
-        };
-        let side = found.side;
-        let (mut log, other) = parted(side, files);
-        match cut_behind(&mut log, found.gate, found.end) {
-            Ok(()) => Ok(Log::started(log, other, found, room)),
-            Err(Failed) => Err(OpenRefused {
-                why: OpenWhy::Disk,
-                files: files_in(side, log, other),
-            }),
+        match prepare(alloc, &mut files) {
+            Ok((found, room)) => {
+                let (log, other) = parted(found.side, files);
+                Ok(Log::started(log, other, found, room))
+            }
+            Err(why) => Err(OpenRefused { why, files }),
         }
     }
 
@@ -222,13 +189,13 @@ impl<F: LogFile> Log<F> {
     fn started(log: F, other: F, found: Found, room: Room) -> (Log<F>, Entries)
         requires usable { IsUsable found }
         requires room { HasRoom found.preamble.params.d room.frame.items room.preamble.items }
-        requires rest { F.tells → IsAtRest found.side (said_by found.preamble) (F.seen log) (F.seen other) (F.unsynced log) (F.unsynced other) found.gate found.entries }
+        requires rest { F.tells → IsAtRest found.side (said_by found.preamble) (F.seen log) (F.seen other) (F.unsynced log) (F.unsynced other) found.frames.gate found.frames.entries }
         ensures files { files_of result.0 ≡ files_in found.side log other }
         ensures held { F.tells → held_of result.0 ≡ held_in found }
-        ensures entries { result.1 ≡ found.entries }
+        ensures entries { result.1 ≡ found.frames.entries }
         ensures is_open { result.0.is_closed ≡ false }
     {
-        let count = found.entries.items().len() as u64;
+        let count = found.frames.entries.items().len() as u64;
         let log = Log {
             log,
             other,
@@ -237,11 +204,11 @@ impl<F: LogFile> Log<F> {
             book: found.preamble.book,
             base: found.preamble.base,
             generation: found.preamble.generation,
-            gate: found.gate,
+            gate: found.frames.gate as u64,
             count,
             closed: false,
             room,
         };
-        (log, found.entries)
+        (log, found.frames.entries)
     }
 }

@@ -1,11 +1,11 @@
 // Reading the bytes of a log's two files.
 ghost use Rattle.std.specs.Prelude.{◌≡◌, IfOk, IfErr};
 ghost use Rattle.ann_preamble.specs.Preamble.{preamble_of, said_by, said_by_found};
-ghost use Rattle.ann_log.specs.Found.{IsFound, IsFoundIn, IsUsable, IsRefused};
+ghost use Rattle.ann_log.specs.Found.{IsFound, IsFoundIn, IsUsable, IsRefused, IsInReach, refusal_of};
 ghost use Rattle.ann_log.specs.Text.{log_text, text_with};
 
 use crate::refused::OpenWhy;
-use ann_frame::{Entries, Frames, FramesRefused, read_frames};
+use ann_frame::{Frames, FramesRefused, read_frames};
 use ann_preamble::{Preamble, Side, choose};
 use std::alloc::Global;
 
@@ -16,10 +16,8 @@ pub(crate) struct Found {
     pub(crate) preamble: Preamble,
     /// Which file that is.
     pub(crate) side: Side,
-    /// Its entries.
-    pub(crate) entries: Entries,
-    /// The place of its first gate that isn't open.
-    pub(crate) gate: u64,
+    /// Its entries, and the place of its first gate that isn't open.
+    pub(crate) frames: Frames,
     /// The place where its bytes end.
     pub(crate) end: u64,
 }
@@ -49,7 +47,7 @@ fn read_file_text(
 ) -> Result<Found, OpenWhy>
     requires { said_by_found preamble ≡ preamble_of bytes.now }
     ensures side { IfOk result (λ found. found.side ≡ side) }
-    ensures found { IfOk result (λ found. IsFoundIn bytes.now (said_by found.preamble) found.entries found.gate found.end) }
+    ensures found { IfOk result (λ found. IsFoundIn bytes.now (said_by found.preamble) found.frames found.end) }
     ensures usable { IfOk result IsUsable }
     ensures refused { IfErr result (IsRefused (text_with (preamble_of bytes.now) bytes.now)) }
     ensures no_fault { IfErr result (λ why. why ≡ OpenWhy.Disk → ⊥) }
@@ -57,18 +55,28 @@ fn read_file_text(
     let Some(preamble) = preamble else {
         return Err(OpenWhy::NoIndex);
     };
-    let first_gate = preamble.gate() as usize;
-    match read_frames(alloc, bytes, first_gate, preamble.params.d) {
-        Ok(Frames { entries, gate }) => Ok(Found {
+    let end = bytes.len() as u64;
+    let gate = preamble.gate() as usize;
+    match read_frames(alloc, bytes, gate, preamble.params.d) {
+        Ok(frames) => Ok(Found {
             preamble,
             side,
-            entries,
-            gate: gate as u64,
-            end: bytes.len() as u64,
+            frames,
+            end,
         }),
-        Err(FramesRefused::Bad { entry }) => Err(OpenWhy::BadLog {
-            entry: preamble.base.position + entry,
-        }),
-        Err(FramesRefused::Memory) => Err(OpenWhy::Memory),
+        Err(refused) => Err(refusal(preamble.base.position, refused)),
+    }
+}
+
+// Why a log on a base at this position isn't opened whose frames are refused.
+fn refusal(position: u64, refused: FramesRefused) -> OpenWhy
+    requires { IsInReach position refused }
+    ensures { result ≡ refusal_of position refused }
+{
+    match refused {
+        FramesRefused::Bad { entry } => OpenWhy::BadLog {
+            entry: position + entry,
+        },
+        FramesRefused::Memory => OpenWhy::Memory,
     }
 }
