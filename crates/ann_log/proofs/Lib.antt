@@ -1,3 +1,4 @@
+pub mod AtRest
 pub mod Behind
 pub mod Gates
 pub mod Opening

@@ -192,6 +192,7 @@ impl<F: LogFile> Log<F> {
         requires rest { F.tells → IsAtRest found.side (said_by found.preamble) (F.seen log) (F.seen other) (F.unsynced log) (F.unsynced other) found.frames.gate found.frames.entries }
         ensures files { files_of result.0 ≡ files_in found.side log other }
         ensures held { F.tells → held_of result.0 ≡ held_in found }
+        ensures after { F.tells → EachPair F.unsynced (StandsFor (held_of result.0)) (files_of result.0) }
         ensures entries { result.1 ≡ found.frames.entries }
         ensures is_open { result.0.is_closed ≡ false }
     {
