@@ -1,5 +1,7 @@
 pub mod AtRest
 pub mod Behind
+pub mod Buffers
+pub mod Extending
 pub mod Gates
 pub mod Opening
 pub mod Pairs
