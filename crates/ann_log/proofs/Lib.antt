@@ -1,4 +1,7 @@
+pub mod AtRest
 pub mod Behind
+pub mod Buffers
+pub mod Extending
 pub mod Gates
 pub mod Nothing
 pub mod Opening

@@ -125,3 +125,16 @@ cut_reads Second s frames end u v first second is_first is_second is_log is one 
           side_text Second s two one cut.0 (ap (λ (l : List ℕ). choice_of Second s (preamble_of l)) may.1 ∙ is_log) ∙ cut.1
           ∙ sym (found_text Second s frames end first second is_log is);
     }
+
+pub on_clean : (side : Side) (u v : Unsynced) (first second : List ℕ) → u ≡ clean first → v ≡ clean second → (on_side side u v ≡ clean (on_side side first second)) × (off_side side u v ≡ clean (off_side side first second))
+on_clean First u v first second one two = (one, two)
+on_clean Second u v first second one two = (two, one)
+
+-- images read as they do
+pub images_read : (u v : Unsynced) (one two : List ℕ) → IsImage u one × IsImage v two → ReadAsBefore u v one two
+images_read u v one two are = record { one = one; two = two; first_image = are.0; second_image = are.1; same = refl }
+
+-- where files that read alike were cut
+pub may_be_cut : (side : Side) (to : ℕ) (first second first' second' one two : List ℕ) → first' ≡ first → second' ≡ second → MayBeCut side to first' second' one two → MayBeCut side to first second one two
+may_be_cut side to first second first' second' one two same_first same_second may =
+    subst (λ l. MayBeCut side to first l one two) same_second (subst (λ l. MayBeCut side to l second' one two) same_first may)

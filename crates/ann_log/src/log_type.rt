@@ -17,7 +17,7 @@ use crate::refused::{Disk, OpenRefused, OpenWhy};
 use crate::room::Room;
 use crate::storing::store_frame;
 use ann_disk::{Failed, LogFile};
-use ann_frame::{Entries, write_frame};
+use ann_frame::Entries;
 use ann_pq::Codebook;
 use ann_preamble::{Base, Side};
 use ann_types::{Entry, Params};
@@ -171,7 +171,7 @@ impl<F: LogFile> Log<F> {
         ensures later { F.faults self.old.log ≤ F.faults self.new.log }
         ensures cause { OnErr result (Rose (F.faults self.old.log) (F.faults self.new.log)) }
     {
-        let length = write_frame(entries, &mut self.room.frame);
+        let length = self.room.put_frame(self.params.d, entries);
         match store_frame(&mut self.log, self.gate, &self.room.frame[..length]) {
             Ok(()) => {
                 self.gate += length as u64;
@@ -192,6 +192,7 @@ impl<F: LogFile> Log<F> {
         requires rest { F.tells → IsAtRest found.side (said_by found.preamble) (F.seen log) (F.seen other) (F.unsynced log) (F.unsynced other) found.frames.gate found.frames.entries }
         ensures files { files_of result.0 ≡ files_in found.side log other }
         ensures held { F.tells → held_of result.0 ≡ held_in found }
+        ensures after { F.tells → EachPair F.unsynced (StandsFor (held_of result.0)) (files_of result.0) }
         ensures entries { result.1 ≡ found.frames.entries }
         ensures is_open { result.0.is_closed ≡ false }
     {
