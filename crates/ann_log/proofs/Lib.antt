@@ -2,6 +2,7 @@ pub mod AtRest
 pub mod Behind
 pub mod Buffers
 pub mod Extending
+pub mod Fronts
 pub mod Gates
 pub mod Nothing
 pub mod Opening
