@@ -1,8 +1,9 @@
 -- What making a log leaves.
 use Rattle.std.specs.Prelude.{◌≡◌, ◌⊎◌, ℕ, List, [], Result, Ok, Err}
 use Rattle.ann_types.specs.declared.params.Params.{Params}
+use Rattle.ann_pq.specs.Codebook.{Shown}
 use Rattle.ann_pq.specs.Format.{codebook}
-use Rattle.ann_disk.specs.Image.{Unsynced, IsImage}
+use Rattle.ann_disk.specs.Image.{Unsynced, IsImage, clean}
 use Rattle.ann_preamble.specs.Preamble.{Said, no_base}
 use Rattle.ann_preamble.specs.declared.base.Base.{Base}
 use Rattle.ann_log.specs.Pairs.{AreUntouched}
@@ -12,8 +13,16 @@ use Rattle.ann_log.specs.declared.refused.MakeWhy.{MakeWhy}
 use Rattle.ann_log.specs.declared.refused.MakeWhy.TheVariants.{IndexThere, Disk, Memory}
 
 -- a base and no entries
+abbrev pub held_with : Params → Shown → Base → Held
+held_with params book base = record { params = params; book = book; base = base; entries = [] }
+
+-- the same with the codebook of these bytes
 abbrev pub base_alone : Params → List ℕ → Base → Held
-base_alone params book base = record { params = params; book = codebook params.d params.m book; base = base; entries = [] }
+base_alone params book base = held_with params (codebook params.d params.m book) base
+
+-- all of a file is on the disk
+abbrev pub IsSynced : List ℕ → Unsynced → Type 0
+IsSynced seen unsynced = unsynced ≡ clean seen
 
 -- the files stand for the empty list: nothing stood before it, and it has no entries
 abbrev pub IsEmpty : List ℕ → List ℕ → Type 0

@@ -9,7 +9,7 @@ ghost use Rattle.ann_preamble.specs.Preamble.{preamble_of, no_base};
 ghost use Rattle.ann_log.specs.Anew.{IsUnmade, HoldsText};
 ghost use Rattle.ann_log.specs.Causes.{HaveLater, RoseIn};
 ghost use Rattle.ann_log.specs.LogView.{HasRoom, IsSaid, files_of, held_of};
-ghost use Rattle.ann_log.specs.Making.{base_alone, HoldsNothing, IsNothingOr, IsNoIndexOr, IsUnmadeBy};
+ghost use Rattle.ann_log.specs.Making.{base_alone, held_with, IsSynced, HoldsNothing, IsNothingOr, IsNoIndexOr, IsUnmadeBy};
 ghost use Rattle.ann_log.specs.Pairs.{EachPair, LeavePairs, IsUntouched, AreUntouched};
 ghost use Rattle.ann_log.specs.Text.{Held, StandsFor, IsNoIndex, said_in};
 
@@ -52,4 +52,56 @@ fn read_front<F: LogFile>(alloc: Global, file: &mut F) -> Result<Vec<u8>, MakeWh
     bytes.resize(length.min(LONGEST) as usize, 0)?;
     file.read_at(0, &mut bytes)?;
     Ok(bytes)
+}
+
+// What a log has besides its files: a codebook and room for writing. Nothing is written.
+fn gather<F: LogFile>(
+    alloc: Global,
+    files: &mut Files<F>,
+    params: &Params,
+    book: &[u8],
+) -> Result<(Codebook, Room), MakeWhy>
+    requires { fault params.now.d params.now.m book.now ≡ None }
+    ensures none { F.tells → OnOk result (IsNoIndex (F.seen files.old.first) (F.seen files.old.second)) }
+    ensures there { F.tells → IfErr result (λ why. why ≡ MakeWhy.IndexThere → IsNoIndex (F.seen files.old.first) (F.seen files.old.second) → ⊥) }
+    ensures book { IfOk result (λ parts. parts.0 ≡ codebook params.now.d params.now.m book.now) }
+    ensures room { IfOk result (λ parts. HasRoom params.now.d parts.1.frame.items parts.1.preamble.items) }
+    ensures same { F.tells → AreUntouched F.seen F.unsynced F.past files.old files.new }
+    ensures later { HaveLater F.faults files.old files.new }
+    ensures cause { IfErr result (λ why. why ≡ MakeWhy.Disk → RoseIn F.faults files.old files.new) }
+{
+    if is_made(alloc, &mut files.first)? {
+        return Err(MakeWhy::IndexThere);
+    }
+    if is_made(alloc, &mut files.second)? {
+        return Err(MakeWhy::IndexThere);
+    }
+    let Ok(book) = Codebook::read(alloc, book, params.d, params.m) else {
+        return Err(MakeWhy::Memory);
+    };
+    Ok((book, Room::new(alloc, params.d)?))
+}
+
+// Cuts the second file to nothing, and writes the first one anew.
+fn write_both<F: LogFile>(
+    files: &mut Files<F>,
+    room: &mut Room,
+    params: &Params,
+    book: &Codebook,
+    base: &Base,
+) -> Result<u64, Failed>
+    requires none { F.tells → IsNoIndex (F.seen files.old.first) (F.seen files.old.second) }
+    requires room { HasRoom params.now.d room.old.frame.items room.old.preamble.items }
+    requires said { IsSaid (said_in params.now book.now base.now 1) }
+    ensures room { HasRoom params.now.d room.new.frame.items room.new.preamble.items }
+    ensures text { IfOk result (λ gate. HoldsText F.tells (said_in params.now book.now base.now 1) [] gate (F.seen files.new.first)) }
+    ensures rest { F.tells → OnOk result (IsSynced (F.seen files.new.first) (F.unsynced files.new.first) × (F.seen files.new.second ≡ []) × IsSynced (F.seen files.new.second) (F.unsynced files.new.second)) }
+    // Where a crash before it leaves no index or an empty one, a crash at any moment of it does, or it leaves the base alone.
+    ensures during { F.tells → EachPair F.unsynced HoldsNothing files.old → LeavePairs F.past F.unsynced files.old files.new (IsNothingOr (F.unsynced files.old.first) (F.unsynced files.old.second) (held_with params.now book.now base.now)) }
+    ensures read { F.tells → IsNoIndexOr (held_with params.now book.now base.now) (F.seen files.new.first) (F.seen files.new.second) }
+    ensures later { HaveLater F.faults files.old files.new }
+    ensures cause { OnErr result (RoseIn F.faults files.old files.new) }
+{
+    cut_any(&mut files.second, 0)?;
+    write_text(&mut files.first, room, params, book, base, 1, &[])
 }
