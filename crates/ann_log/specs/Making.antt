@@ -1,11 +1,13 @@
 -- What making a log leaves.
-use Rattle.std.specs.Prelude.{◌≡◌, ◌⊎◌, ℕ, List, [], Result, Ok, Err}
+use Rattle.std.specs.Prelude.{◌≡◌, ◌⊎◌, ℕ, false, List, [], Result, Ok, Err}
 use Rattle.ann_types.specs.declared.params.Params.{Params}
 use Rattle.ann_pq.specs.Codebook.{Shown}
 use Rattle.ann_pq.specs.Format.{codebook}
 use Rattle.ann_disk.specs.Image.{Unsynced, IsImage, clean}
 use Rattle.ann_preamble.specs.Preamble.{Said, no_base}
 use Rattle.ann_preamble.specs.declared.base.Base.{Base}
+use Rattle.ann_preamble.specs.declared.choice.Side.TheVariants.{First}
+use Rattle.ann_log.specs.LogView.{LogView}
 use Rattle.ann_log.specs.Pairs.{AreUntouched}
 use Rattle.ann_log.specs.Text.{LogText, no_index, holds, log_text, Held, StandsFor, IsNoIndex}
 use Rattle.ann_log.specs.declared.files.Files.{Files}
@@ -47,6 +49,15 @@ IsNothingOr u v held first second = IsNoIndex first second ⊎ ((IsEmpty first s
 -- no index, or what is to be made
 abbrev pub IsNoIndexOr : Held → List ℕ → List ℕ → Type 0
 IsNoIndexOr held first second = IsNoIndex first second ⊎ StandsFor held first second
+
+-- a log that was just made: the first file is the log, and isn't closed
+pub record IsFresh {F : Type 0} (p : Params) (shown : Shown) (b : Base) (log : LogView F) : Type 0 where
+  pub params : log.params ≡ p
+  pub book : log.book ≡ shown
+  pub base : log.base ≡ b
+  pub generation : log.generation ≡ 1
+  pub side : log.side ≡ First
+  pub open_now : log.is_closed ≡ false
 
 module _ {F : Type 0} (seen : F → List ℕ) (unsynced : F → Unsynced) (past : F → List Unsynced) where
   -- What a refusal leaves. An index is there exactly where it says so, and is untouched. After a fault the files are untouched,
