@@ -53,7 +53,9 @@ fn of_found(found: Found) -> Inspected
     ensures { held_by result ≡ held_in found }
 {
     let Found {
-        preamble, frames, ..
+        preamble,
+        frames,
+        ..
     } = found;
     Inspected {
         params: preamble.params,

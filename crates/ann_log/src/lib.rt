@@ -14,6 +14,8 @@ mod reading;
 mod refused;
 mod room;
 mod storing;
+#[cfg(test)]
+mod tests;
 
 pub use ann_frame::Entries;
 pub use ann_preamble::Base;

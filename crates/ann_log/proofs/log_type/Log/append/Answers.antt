@@ -29,8 +29,7 @@ invariant_of-self g c =
     let whole = length-append (frame_bytes entries) (0 ∷ []) in
     let size = put.ensures.size in
     let long : put.result ≡ length stored = omega (arith, size, whole) in
-    let place = ap (λ (n : ℕ). i.gate + n) long in
-    (
+    let place = ap (λ (n : ℕ). i.gate + n) long in (
       subst (IsSound D.tells i.side s (D.seen new) (D.seen i.other) (D.unsynced new) (D.unsynced i.other) (i.gate + put.result) (i.count + length entries)) (sym closed)
           (sound_again D.tells i.side s (D.seen i.log) (D.seen i.other) (D.unsynced i.log) (D.unsynced i.other) i.gate i.count sound entries frame
           (D.seen new) (D.unsynced new) (i.gate + put.result) stored_is c.in-Ok.ensures.rest place
@@ -53,8 +52,7 @@ invariant_of-self-in-Err g c =
     let stored : List ℕ = frame_bytes entries ++ 0 ∷ [] in
     let framed : take put.result c.deref.result.now ≡ stored = subst (λ (l : List ℕ). take put.result l ≡ stored) (sym c.deref.ensures.value) put.ensures.written in
     let new = c.store_frame.new.file in
-    let may = λ (t : D.tells). subst (λ (l : List ℕ). MayHold i.gate (D.seen i.log) l (D.seen new)) framed ((c.store_frame.ensures.during t).now (D.seen new) (g.met.F.LogFile.reads_an_image new t)) in
-    (
+    let may = λ (t : D.tells). subst (λ (l : List ℕ). MayHold i.gate (D.seen i.log) l (D.seen new)) framed ((c.store_frame.ensures.during t).now (D.seen new) (g.met.F.LogFile.reads_an_image new t)) in (
       closed_sound D.tells i.side s (D.seen i.log) (D.seen i.other) (D.unsynced i.log) (D.unsynced i.other) i.gate i.count sound entries frame (D.seen new) (D.unsynced new) may,
       put.ensures.room,
     )
