@@ -6,12 +6,15 @@
 //! specs/Pairs.antt. `append` and `renew` take no memory.
 #![tactic(auto)]
 
+mod anew;
 mod files;
 mod inspect;
 mod log_type;
+mod make;
 mod open;
 mod reading;
 mod refused;
+mod renew;
 mod room;
 mod storing;
 #[cfg(test)]

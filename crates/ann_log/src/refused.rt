@@ -1,6 +1,7 @@
 // Why a log isn't made, opened or extended.
 ghost use Rattle.std.specs.Prelude.{◌≡◌};
 ghost use Rattle.ann_log.specs.declared.refused.OpenWhy.TheVariants.{Disk as Unread, Memory};
+ghost use Rattle.ann_log.specs.declared.refused.MakeWhy.TheVariants.{Disk as Unmade, Memory as NoMemory};
 
 use crate::files::Files;
 use ann_disk::Failed;
@@ -85,5 +86,29 @@ impl<T: Drop> From<AllocFailed<T>> for OpenWhy {
 
     fn from(_error: AllocFailed<T>) -> Self {
         OpenWhy::Memory
+    }
+}
+
+impl From<Failed> for MakeWhy {
+    ghost from_gives = { λ _ e. e ≡ Unmade };
+
+    fn from(_failed: Failed) -> Self {
+        MakeWhy::Disk
+    }
+}
+
+impl From<AllocError> for MakeWhy {
+    ghost from_gives = { λ _ e. e ≡ NoMemory };
+
+    fn from(_error: AllocError) -> Self {
+        MakeWhy::Memory
+    }
+}
+
+impl<T: Drop> From<AllocFailed<T>> for MakeWhy {
+    ghost from_gives = { λ _ e. e ≡ NoMemory };
+
+    fn from(_error: AllocFailed<T>) -> Self {
+        MakeWhy::Memory
     }
 }

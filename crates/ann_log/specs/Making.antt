@@ -1,0 +1,49 @@
+-- What making a log leaves.
+use Rattle.std.specs.Prelude.{◌≡◌, ◌⊎◌, ℕ, List, [], Result, Ok, Err}
+use Rattle.ann_types.specs.declared.params.Params.{Params}
+use Rattle.ann_pq.specs.Format.{codebook}
+use Rattle.ann_disk.specs.Image.{Unsynced, IsImage}
+use Rattle.ann_preamble.specs.Preamble.{Said, no_base}
+use Rattle.ann_preamble.specs.declared.base.Base.{Base}
+use Rattle.ann_log.specs.Pairs.{AreUntouched}
+use Rattle.ann_log.specs.Text.{LogText, no_index, holds, log_text, Held, StandsFor, IsNoIndex}
+use Rattle.ann_log.specs.declared.files.Files.{Files}
+use Rattle.ann_log.specs.declared.refused.MakeWhy.{MakeWhy}
+use Rattle.ann_log.specs.declared.refused.MakeWhy.TheVariants.{IndexThere, Disk, Memory}
+
+-- a base and no entries
+abbrev pub base_alone : Params → List ℕ → Base → Held
+base_alone params book base = record { params = params; book = codebook params.d params.m book; base = base; entries = [] }
+
+-- the files stand for the empty list: nothing stood before it, and it has no entries
+abbrev pub IsEmpty : List ℕ → List ℕ → Type 0
+IsEmpty first second = (s : Said) × (s.fields.base ≡ no_base) × (log_text first second ≡ holds s [])
+
+-- no index, or an empty one
+abbrev pub HoldsNothing : List ℕ → List ℕ → Type 0
+HoldsNothing first second = IsNoIndex first second ⊎ IsEmpty first second
+
+-- a crash might leave the empty list
+pub record MayBeEmpty (u v : Unsynced) : Type 0 where
+  pub first : List ℕ
+  pub second : List ℕ
+  pub first_image : IsImage u first
+  pub second_image : IsImage v second
+  pub empty : IsEmpty first second
+
+-- no index, the empty list where a crash might have left it before, or what is to be made
+abbrev pub IsNothingOr : Unsynced → Unsynced → Held → List ℕ → List ℕ → Type 0
+IsNothingOr u v held first second = IsNoIndex first second ⊎ ((IsEmpty first second × MayBeEmpty u v) ⊎ StandsFor held first second)
+
+-- no index, or what is to be made
+abbrev pub IsNoIndexOr : Held → List ℕ → List ℕ → Type 0
+IsNoIndexOr held first second = IsNoIndex first second ⊎ StandsFor held first second
+
+module _ {F : Type 0} (seen : F → List ℕ) (unsynced : F → Unsynced) (past : F → List Unsynced) where
+  -- What a refusal leaves. An index is there exactly where it says so, and is untouched. After a fault the files are untouched,
+  -- or there was no index and there is none, or what was to be made.
+  abbrev pub IsUnmadeBy : Held → Files F → Files F → MakeWhy → Type 0
+  IsUnmadeBy held old new IndexThere = (IsNoIndex (seen old.first) (seen old.second) → ⊥) × AreUntouched seen unsynced past old new
+  IsUnmadeBy held old new Disk =
+      AreUntouched seen unsynced past old new ⊎ (IsNoIndex (seen old.first) (seen old.second) × IsNoIndexOr held (seen new.first) (seen new.second))
+  IsUnmadeBy held old new Memory = AreUntouched seen unsynced past old new
