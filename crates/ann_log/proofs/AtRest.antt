@@ -48,8 +48,8 @@ each_stands {F} seen unsynced First log other held generation gate rest = λ fir
     let same_second : second ≡ seen other = clean_only (seen other) second (subst (λ u. IsImage u second) rest.other_synced is_second) in (
       generation,
       side_text First s first second (ap preamble_of same_first ∙ rest.says) (ap (λ (l : List ℕ). choice_of First s (preamble_of l)) same_second ∙ rest.is_log)
-      ∙ ap (file_text s) same_first
-      ∙ text_now First s (seen log) (seen other) (unsynced log) (unsynced other) gate held.entries rest,
+          ∙ ap (file_text s) same_first
+          ∙ text_now First s (seen log) (seen other) (unsynced log) (unsynced other) gate held.entries rest,
     )
 each_stands {F} seen unsynced Second log other held generation gate rest = λ first is_first second is_second.
     let s = said_of held generation in
@@ -57,8 +57,8 @@ each_stands {F} seen unsynced Second log other held generation gate rest = λ fi
     let same_second : second ≡ seen log = clean_only (seen log) second (subst (λ u. IsImage u second) rest.log_synced is_second) in (
       generation,
       side_text Second s second first (ap preamble_of same_second ∙ rest.says) (ap (λ (l : List ℕ). choice_of Second s (preamble_of l)) same_first ∙ rest.is_log)
-      ∙ ap (file_text s) same_second
-      ∙ text_now Second s (seen log) (seen other) (unsynced log) (unsynced other) gate held.entries rest,
+          ∙ ap (file_text s) same_second
+          ∙ text_now Second s (seen log) (seen other) (unsynced log) (unsynced other) gate held.entries rest,
     )
 
 -- a log at rest is sound

@@ -1,12 +1,14 @@
 -- How many entries there can be.
-use Rattle.std.proofs.Common.{◌≡◌, ◌⊎◌, inl, inr, ⊎_elim, ℕ, ◌+◌, ◌*◌, ◌/◌, ◌%◌, ◌<◌, ◌≤◌, ◌^◌, Bool, true, false, ◌==◌, ◌&&◌, ◌||◌, nat_lt, List, [], ◌∷◌, ◌++◌, length, drop, refl, ap, arith, length-append, length-drop, length-take}
+use Rattle.std.proofs.Common.{◌≡◌, ◌⊎◌, inl, inr, ⊎_elim, ℕ, ◌+◌, ◌*◌, ◌/◌, ◌%◌, ◌<◌, ◌≤◌, ◌^◌, Bool, true, false, ◌==◌, ◌&&◌, ◌||◌, nat_lt, List, [], ◌∷◌, ◌++◌, length, drop, refl, sym, subst, ap, arith, length-append, length-drop, length-take}
 use Rattle.std.proofs.lemmas.Bool.Decides.{nat_tests, Decides-eqb}
 use Rattle.std.proofs.lemmas.Bool.{ltb-true}
 use Rattle.ann_types.specs.declared.entry.Entry.{Entry}
-use Rattle.ann_entry.specs.EntryBytes.{entries_bytes}
+use Rattle.std.specs.List.{AllByRecursion}
+use Rattle.ann_entry.specs.EntryBytes.{IsEntry, entries_bytes}
 use Rattle.ann_entry.proofs.Fronts.{length_entries}
-use Rattle.ann_frame.specs.Frames.{AreFrames, frame_bytes, frames_bytes, entries_of}
+use Rattle.ann_frame.specs.Frames.{AreEntries, HaveComponents, IsFrame, AreFrames, frame_bytes, frames_bytes, entries_of}
 use Rattle.ann_frame.specs.Text.{StandFor, IsBroken, IsBadAt, size_of}
+use Rattle.ann_frame.proofs.Each.{all_append}
 use Rattle.ann_preamble.specs.Base.{is_base, is_empty, is_merged}
 use Rattle.ann_preamble.specs.declared.base.Base.{Base}
 use Rattle.ann_preamble.proofs.Agreed.{both}
@@ -21,6 +23,18 @@ all_few (frame ∷ frames) =
     omega (arith, five, rest, entries, bytes)
 
 module _ (d : ℕ) where
+  components_of : (entries : List Entry) → AreEntries d entries → HaveComponents d entries
+  components_of [] each = tt
+  components_of (entry ∷ entries) each = (each.0.components, components_of entries each.1)
+
+  all_entries : (frames : List (List Entry)) → AllByRecursion (IsFrame d) frames → AreEntries d (entries_of frames)
+  all_entries [] each = tt
+  all_entries (frame ∷ frames) each = all_append (IsEntry d) frame (entries_of frames) each.0.each (all_entries frames each.1)
+
+  -- the vectors of frames have d components
+  pub frames_components : (front : List ℕ) (entries : List Entry) → AreFrames d front entries → HaveComponents d entries
+  frames_components front entries is = components_of entries (subst (AreEntries d) (sym is.joined) (all_entries is.frames is.each))
+
   pub frames_few : (front : List ℕ) (entries : List Entry) → AreFrames d front entries → 5 * length entries ≤ length front
   frames_few front entries is =
       let few = all_few is.frames in

@@ -2,6 +2,7 @@
 use Rattle.std.specs.Prelude.{◌≡◌, ℕ, ◌+◌, ◌-◌, ◌*◌, ◌^◌, ◌<◌, ◌≤◌, List, length, drop, Option, Some}
 use Rattle.ann_types.specs.declared.entry.Entry.{Entry}
 use Rattle.ann_preamble.specs.Preamble.{Said, said_by, preamble_of}
+use Rattle.ann_frame.specs.Frames.{HaveComponents}
 use Rattle.ann_frame.specs.Text.{StandFor}
 use Rattle.ann_frame.specs.declared.reading.Frames.{Frames}
 use Rattle.ann_frame.specs.declared.frames_refused.FramesRefused.{FramesRefused}
@@ -34,6 +35,7 @@ held_in found = record { params = found.preamble.params; book = found.preamble.b
 pub record IsUsable (found : Found) : Type 0 where
   pub said : IsSaid (said_by found.preamble)
   pub inside : found.frames.gate < found.end
+  pub components : HaveComponents found.preamble.params.d found.frames.entries
   pub few : 5 * length found.frames.entries ≤ found.frames.gate
 
 -- the refusal is what the files stand for, or a fault or want of memory

@@ -63,6 +63,10 @@ IsNoIndex first second = log_text first second ≡ no_index
 abbrev pub IsBadLog : ℕ → List ℕ → List ℕ → Type 0
 IsBadLog position first second = log_text first second ≡ bad_log position
 
--- the files stand for what is held, whatever the generation is
+-- the files stand for what is held, at this generation
+abbrev pub StandsAt : ℕ → Held → List ℕ → List ℕ → Type 0
+StandsAt generation held first second = log_text first second ≡ holds (said_of held generation) held.entries
+
+-- and so they do at some generation
 abbrev pub StandsFor : Held → List ℕ → List ℕ → Type 0
-StandsFor held first second = (generation : ℕ) × (log_text first second ≡ holds (said_of held generation) held.entries)
+StandsFor held first second = (generation : ℕ) × StandsAt generation held first second

@@ -1,6 +1,8 @@
 // Reading a log's files, and looking into them without a change.
-ghost use Rattle.std.specs.Prelude.{◌≡◌, ◌≤◌, ◌⊎◌, IfOk, IfErr};
+ghost use Rattle.std.specs.Prelude.{◌≡◌, ◌≤◌, ◌⊎◌, true, IfOk, IfErr};
 ghost use Rattle.ann_disk.specs.Causes.{Rose};
+ghost use Rattle.ann_preamble.specs.Base.{is_base};
+ghost use Rattle.ann_frame.specs.Frames.{HaveComponents};
 ghost use Rattle.ann_log.specs.Causes.{HaveLater, RoseIn};
 ghost use Rattle.ann_log.specs.Found.{held_in, IsFound, IsUsable, IsRefused};
 ghost use Rattle.ann_log.specs.LogView.{held_by};
@@ -33,6 +35,10 @@ pub struct Inspected {
 /// What the log in these files holds. It answers as `Log::open`, and neither cuts nor syncs.
 pub fn inspect_log<F: LogFile>(alloc: Global, files: &mut Files<F>) -> Result<Inspected, OpenWhy>
     ensures held { F.tells → IfOk result (λ found. StandsFor (held_by found) (F.seen files.old.first) (F.seen files.old.second)) }
+    // Its parts go together, whatever the files tell.
+    ensures sizes { IfOk result (λ found. (found.book.d ≡ found.params.d) × (found.book.m ≡ found.params.m)) }
+    ensures valid { IfOk result (λ found. is_base found.base ≡ true) }
+    ensures components { IfOk result (λ found. HaveComponents found.params.d found.entries) }
     ensures refused { F.tells → IfErr result (IsRefused (log_text (F.seen files.old.first) (F.seen files.old.second))) }
     ensures same { F.tells → AreUntouched F.seen F.unsynced F.past files.old files.new }
     ensures later { HaveLater F.faults files.old files.new }
@@ -47,7 +53,9 @@ fn of_found(found: Found) -> Inspected
     ensures { held_by result ≡ held_in found }
 {
     let Found {
-        preamble, frames, ..
+        preamble,
+        frames,
+        ..
     } = found;
     Inspected {
         params: preamble.params,

@@ -17,6 +17,8 @@ mod refused;
 mod renew;
 mod room;
 mod storing;
+#[cfg(test)]
+mod tests;
 
 pub use ann_frame::Entries;
 pub use ann_preamble::Base;

@@ -1,14 +1,15 @@
 // The log over its two files.
-ghost use Rattle.std.specs.Prelude.{◌≡◌, ◌+◌, ◌-◌, ◌<◌, ◌≤◌, ◌^◌, ◌↔◌, ◌++◌, false, length, OnOk, OnErr, IfOk, IfErr, IsTrue, IsErr};
+ghost use Rattle.std.specs.Prelude.{◌≡◌, ◌+◌, ◌-◌, ◌<◌, ◌≤◌, ◌^◌, ◌↔◌, ◌++◌, true, false, length, OnOk, OnErr, IfOk, IfErr, IsTrue, IsErr};
 ghost use Rattle.ann_types.specs.declared.entry.Entry.{Entry};
 ghost use Rattle.ann_disk.specs.Causes.{Rose};
+ghost use Rattle.ann_preamble.specs.Base.{is_base};
 ghost use Rattle.ann_preamble.specs.Preamble.{said_by};
 ghost use Rattle.ann_frame.specs.Frames.{HaveComponents};
 ghost use Rattle.ann_log.specs.Causes.{HaveLater, RoseIn};
 ghost use Rattle.ann_log.specs.Found.{IsRefused, IsUsable, held_in};
 ghost use Rattle.ann_log.specs.LogView.{LogView, files_in, files_of, held_of, extended, counted, HasRoom, IsAtRest, IsSound, IsBeforeOrAfter};
 ghost use Rattle.ann_log.specs.Pairs.{EachPair, LeavePairs, ReadAsBefore};
-ghost use Rattle.ann_log.specs.Text.{StandsFor, said_in, log_text};
+ghost use Rattle.ann_log.specs.Text.{StandsAt, StandsFor, said_in, log_text};
 
 use crate::files::{Files, files_in, parted};
 use crate::open::prepare;
@@ -63,9 +64,10 @@ impl<F: LogFile> Log<F> {
     /// `NoIndex` and `BadLog` are what the bytes say, `Disk` is a fault of a file, and `Memory` want of memory. The files
     /// come back.
     pub fn open(alloc: Global, files: Files<F>) -> Result<(Log<F>, Entries), OpenRefused<F>>
-        // The files stand for what the log holds.
-        ensures held { F.tells → IfOk result (λ opened. StandsFor (held_of opened.0) (F.seen files.first) (F.seen files.second)) }
+        // The files stand for what the log holds, at its generation.
+        ensures held { F.tells → IfOk result (λ opened. StandsAt opened.0.generation (held_of opened.0) (F.seen files.first) (F.seen files.second)) }
         ensures entries { F.tells → IfOk result (λ opened. opened.1 ≡ opened.0.list) }
+        ensures components { IfOk result (λ opened. HaveComponents opened.0.params.d opened.1) }
         ensures is_open { IfOk result (λ opened. opened.0.is_closed ≡ false) }
         // A refusal by the bytes is what they say.
         ensures refused { F.tells → IfErr result (λ refused. IsRefused (log_text (F.seen files.first) (F.seen files.second)) refused.why) }
@@ -115,14 +117,16 @@ impl<F: LogFile> Log<F> {
 
     /// The codebook of its codes.
     pub fn book(&self) -> &Codebook
-        ensures { result.now ≡ self.now.book }
+        ensures book { result.now ≡ self.now.book }
+        ensures sizes { (self.now.book.d ≡ self.now.params.d) × (self.now.book.m ≡ self.now.params.m) }
     {
         &self.book
     }
 
     /// What stood before the entries.
     pub fn base(&self) -> &Base
-        ensures { result.now ≡ self.now.base }
+        ensures base { result.now ≡ self.now.base }
+        ensures valid { is_base self.now.base ≡ true }
     {
         &self.base
     }
@@ -192,6 +196,7 @@ impl<F: LogFile> Log<F> {
         requires rest { F.tells → IsAtRest found.side (said_by found.preamble) (F.seen log) (F.seen other) (F.unsynced log) (F.unsynced other) found.frames.gate found.frames.entries }
         ensures files { files_of result.0 ≡ files_in found.side log other }
         ensures held { F.tells → held_of result.0 ≡ held_in found }
+        ensures said { (result.0.params ≡ found.preamble.params) × (result.0.generation ≡ found.preamble.generation) }
         ensures after { F.tells → EachPair F.unsynced (StandsFor (held_of result.0)) (files_of result.0) }
         ensures entries { result.1 ≡ found.frames.entries }
         ensures is_open { result.0.is_closed ≡ false }

@@ -67,12 +67,7 @@ fn sync_both<F: LogFile>(files: &mut Files<F>) -> Result<(), Failed>
 }
 
 // Cuts off what stands behind a gate of the log's file, which ends there.
-fn cut_log<F: LogFile>(
-    files: &mut Files<F>,
-    side: Side,
-    gate: u64,
-    end: u64,
-) -> Result<(), Failed>
+fn cut_log<F: LogFile>(files: &mut Files<F>, side: Side, gate: u64, end: u64) -> Result<(), Failed>
     requires place { gate < end }
     requires end { F.tells → end ≡ length (on_side side (F.seen files.old.first) (F.seen files.old.second)) }
     requires rest { F.tells → (F.unsynced files.old.first ≡ clean (F.seen files.old.first)) × (F.unsynced files.old.second ≡ clean (F.seen files.old.second)) }

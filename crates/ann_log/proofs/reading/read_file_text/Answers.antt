@@ -5,6 +5,7 @@ use Rattle.ann_frame.specs.Found.{AreRefused}
 use Rattle.ann_log.specs.Found.{IsRefused}
 use Rattle.ann_log.specs.Text.{text_with}
 use Rattle.ann_log.proofs.Behind.{is_said, gate_there, found_in, few, in_reach, refused_text}
+use Rattle.ann_log.proofs.Sizes.{frames_components}
 use Rattle.ann_log.proofs.reading.read_file_text.Goals as goal
 
 pub read_frames-requires : goal.read_frames-requires
@@ -37,6 +38,7 @@ returns-in-Ok-clause-usable c =
     record {
       said = is_said bytes s says;
       inside = place.1;
+      components = frames_components s.fields.d c.in-Ok.ensures.stands.front c.in-Ok.frames.entries c.in-Ok.ensures.stands.frames;
       few = few bytes s says c.in-Ok.frames
           (subst (λ (k : ℕ). StandFor s.fields.d (drop k bytes) c.in-Ok.frames.entries (c.in-Ok.frames.gate - k)) at c.in-Ok.ensures.stands)
           (omega (arith, at, place.0)) place.1;

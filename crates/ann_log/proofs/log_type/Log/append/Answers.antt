@@ -25,12 +25,11 @@ invariant_of-self g c =
     let stored : List ℕ = frame_bytes entries ++ 0 ∷ [] in
     let framed : take put.result c.deref.result.now ≡ stored = subst (λ (l : List ℕ). take put.result l ≡ stored) (sym c.deref.ensures.value) put.ensures.written in
     let new = c.store_frame.new.file in
-    let stored_is = λ (t : D.tells). c.in-Ok.ensures.stored t ∙ ap (λ (l : List ℕ). take i.gate (D.seen i.log) ++ 1 ∷ l) framed in
+    let stored_is = λ (t : D.tells). subst (λ (l : List ℕ). D.seen new ≡ take i.gate (D.seen i.log) ++ 1 ∷ l) framed (c.in-Ok.ensures.stored t) in
     let whole = length-append (frame_bytes entries) (0 ∷ []) in
     let size = put.ensures.size in
     let long : put.result ≡ length stored = omega (arith, size, whole) in
-    let place = ap (λ (n : ℕ). i.gate + n) long in
-    (
+    let place = ap (λ (n : ℕ). i.gate + n) long in (
       subst (IsSound D.tells i.side s (D.seen new) (D.seen i.other) (D.unsynced new) (D.unsynced i.other) (i.gate + put.result) (i.count + length entries)) (sym closed)
           (sound_again D.tells i.side s (D.seen i.log) (D.seen i.other) (D.unsynced i.log) (D.unsynced i.other) i.gate i.count sound entries frame
           (D.seen new) (D.unsynced new) (i.gate + put.result) stored_is c.in-Ok.ensures.rest place
@@ -53,8 +52,7 @@ invariant_of-self-in-Err g c =
     let stored : List ℕ = frame_bytes entries ++ 0 ∷ [] in
     let framed : take put.result c.deref.result.now ≡ stored = subst (λ (l : List ℕ). take put.result l ≡ stored) (sym c.deref.ensures.value) put.ensures.written in
     let new = c.store_frame.new.file in
-    let may = λ (t : D.tells). subst (λ (l : List ℕ). MayHold i.gate (D.seen i.log) l (D.seen new)) framed ((c.store_frame.ensures.during t).now (D.seen new) (g.met.F.LogFile.reads_an_image new t)) in
-    (
+    let may = λ (t : D.tells). subst (λ (l : List ℕ). MayHold i.gate (D.seen i.log) l (D.seen new)) framed ((c.store_frame.ensures.during t).now (D.seen new) (g.met.F.LogFile.reads_an_image new t)) in (
       closed_sound D.tells i.side s (D.seen i.log) (D.seen i.other) (D.unsynced i.log) (D.unsynced i.other) i.gate i.count sound entries frame (D.seen new) (D.unsynced new) may,
       put.ensures.room,
     )
@@ -74,14 +72,15 @@ returns-in-Ok-clause-appended g c told =
     let stored : List ℕ = frame_bytes entries ++ 0 ∷ [] in
     let framed : take put.result c.deref.result.now ≡ stored = subst (λ (l : List ℕ). take put.result l ≡ stored) (sym c.deref.ensures.value) put.ensures.written in
     let new = c.store_frame.new.file in
-    let stored_is = λ (t : D.tells). c.in-Ok.ensures.stored t ∙ ap (λ (l : List ℕ). take i.gate (D.seen i.log) ++ 1 ∷ l) framed in
+    let stored_is = λ (t : D.tells). subst (λ (l : List ℕ). D.seen new ≡ take i.gate (D.seen i.log) ++ 1 ∷ l) framed (c.in-Ok.ensures.stored t) in
     let whole = length-append (frame_bytes entries) (0 ∷ []) in
     let size = put.ensures.size in
     let long : put.result ≡ length stored = omega (arith, size, whole) in
     let place = ap (λ (n : ℕ). i.gate + n) long in
-    ap (λ list. record { params = i.params; book = i.book; base = i.base; entries = list })
-    (list_longer D.tells i.side s (D.seen i.log) (D.seen i.other) (D.unsynced i.log) (D.unsynced i.other) i.gate i.count sound entries frame (D.seen new) (D.unsynced new) (i.gate + put.result) stored_is c.in-Ok.ensures.rest place told)
-    ∙ ap (λ view. extended (held_of view) entries) c.self.view_is
+    let now : Held = record { params = i.params; book = i.book; base = i.base; entries = counted s (i.count + length entries) (D.seen new) } in
+    subst (λ view. now ≡ extended (held_of view) entries) c.self.view_is
+    (ap (λ list. record { params = i.params; book = i.book; base = i.base; entries = list })
+    (list_longer D.tells i.side s (D.seen i.log) (D.seen i.other) (D.unsynced i.log) (D.unsynced i.other) i.gate i.count sound entries frame (D.seen new) (D.unsynced new) (i.gate + put.result) stored_is c.in-Ok.ensures.rest place told))
 
 pub returns-in-Ok-clause-during : goal.returns-in-Ok-clause-during
 returns-in-Ok-clause-during g c told =
@@ -117,7 +116,7 @@ returns-in-Ok-clause-after g c told =
     let stored : List ℕ = frame_bytes entries ++ 0 ∷ [] in
     let framed : take put.result c.deref.result.now ≡ stored = subst (λ (l : List ℕ). take put.result l ≡ stored) (sym c.deref.ensures.value) put.ensures.written in
     let new = c.store_frame.new.file in
-    let stored_is = λ (t : D.tells). c.in-Ok.ensures.stored t ∙ ap (λ (l : List ℕ). take i.gate (D.seen i.log) ++ 1 ∷ l) framed in
+    let stored_is = λ (t : D.tells). subst (λ (l : List ℕ). D.seen new ≡ take i.gate (D.seen i.log) ++ 1 ∷ l) framed (c.in-Ok.ensures.stored t) in
     let whole = length-append (frame_bytes entries) (0 ∷ []) in
     let size = put.ensures.size in
     let long : put.result ≡ length stored = omega (arith, size, whole) in
@@ -143,9 +142,10 @@ returns-in-Err-clause-kept g c told =
     let framed : take put.result c.deref.result.now ≡ stored = subst (λ (l : List ℕ). take put.result l ≡ stored) (sym c.deref.ensures.value) put.ensures.written in
     let new = c.store_frame.new.file in
     let may = λ (t : D.tells). subst (λ (l : List ℕ). MayHold i.gate (D.seen i.log) l (D.seen new)) framed ((c.store_frame.ensures.during t).now (D.seen new) (g.met.F.LogFile.reads_an_image new t)) in
-    ap (λ list. record { params = i.params; book = i.book; base = i.base; entries = list })
-    (list_kept D.tells i.side s (D.seen i.log) (D.seen i.other) (D.unsynced i.log) (D.unsynced i.other) i.gate i.count sound entries frame told (D.seen new) (may told))
-    ∙ ap held_of c.self.view_is
+    let now : Held = record { params = i.params; book = i.book; base = i.base; entries = counted s i.count (D.seen new) } in
+    subst (λ view. now ≡ held_of view) c.self.view_is
+    (ap (λ list. record { params = i.params; book = i.book; base = i.base; entries = list })
+    (list_kept D.tells i.side s (D.seen i.log) (D.seen i.other) (D.unsynced i.log) (D.unsynced i.other) i.gate i.count sound entries frame told (D.seen new) (may told)))
 
 pub returns-in-Err-clause-during : goal.returns-in-Err-clause-during
 returns-in-Err-clause-during g c told =

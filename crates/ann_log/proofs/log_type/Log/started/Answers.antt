@@ -16,7 +16,7 @@ invariant_of-log g c =
     let few = usable.few in
     let long = ap length c.items.ensures in (
       sound_at_rest D.tells found.side (said_by found.preamble) (D.seen c.args.log) (D.seen c.args.other) (D.unsynced c.args.log) (D.unsynced c.args.other) found.frames.gate (length c.items.result.now) found.frames.entries
-      usable.said (omega (arith, inside)) (omega (arith, few, long)) (sym long) c.requires.rest,
+          usable.said (omega (arith, inside)) (omega (arith, few, long)) (sym long) c.requires.rest,
       c.requires.room,
     )
 
