@@ -13,7 +13,7 @@ use Rattle.ann_preamble.specs.Preamble.{Said, magic_two, preamble_of, gate_place
 use Rattle.ann_preamble.specs.Written.{params_fields, base_fields, preamble_bytes, said_with, IsReadAgain}
 use Rattle.ann_preamble.specs.declared.base.Base.{Base}
 use Rattle.ann_preamble.proofs.Again.{not_same, length-book}
-use Rattle.ann_log.specs.Anew.{IsUnmade, AreTail, HoldsTail, IsHead, opened, IsWhole, IsUnmadeOrWhole, IsFrontOrWhole, IsText, HoldsText, IsUnmadeOrText, IsFrontOrText}
+use Rattle.ann_log.specs.Anew.{IsUnmade, AreTail, HoldsTail, IsHead, opened, IsWhole, IsUnmadeOrWhole, IsFrontOrWhole, IsText, HoldsText, IsUnmadeOrText, IsFrontOrText, IsWritten, held_in}
 use Rattle.ann_log.specs.LogView.{IsSaid}
 use Rattle.ann_log.specs.Text.{said_in, first_gate}
 use Rattle.ann_log.proofs.Sizes.{frames_few}
@@ -125,6 +125,28 @@ module _ (p : Params) (generation : ℕ) (base : Base) (book : Shown) (said : Is
       end = holds.end;
       few = let some = frames_few p.d holds.frames entries (are_frames holds.are) in let at = holds.place in omega (arith, some, at);
     }
+
+    -- its bytes
+    gates : (frames : List ℕ) → (first : ℕ) × (rest : List ℕ) × (frames ++ 0 ∷ [] ≡ first ∷ rest)
+    gates [] = (0, [], refl)
+    gates (gate ∷ frames) = (gate, frames ++ 0 ∷ [], refl)
+
+    pub is_written : tells → IsWritten (held_in p book base entries) generation seen
+    is_written told =
+        let end = gates holds.frames in
+        record {
+          frames = holds.frames;
+          are = holds.are;
+          first = end.0;
+          rest = end.1;
+          gates = end.2;
+          spelled =
+              seen_is told
+              ∙ append_assoc front holds.frames (0 ∷ [])
+              ∙ ap (λ (l : List ℕ). front ++ l) end.2
+              ∙ sym (append_assoc front (end.0 ∷ []) end.1)
+              ∙ ap (λ (l : List ℕ). l ++ end.1) (sym (with_gate p generation base book.bytes 1 end.0));
+        }
 
   -- what a crash leaves
   pub whole_text : (head : List ℕ) → head ≡ preamble_bytes 0 p generation base book.bytes 0 → (entries : List Entry) (image : List ℕ) → IsUnmadeOrWhole p.d head entries image → IsUnmadeOrText s entries image

@@ -1,12 +1,16 @@
 -- One file of a log while it is written anew.
 use Rattle.std.specs.Prelude.{◌≡◌, ◌⊎◌, ◌<◌, ◌≤◌, ◌+◌, ◌-◌, ◌^◌, ℕ, List, [], ◌∷◌, ◌++◌, length, take, drop, ◌≢◌, ◌*◌, None, Some, slice_index_or}
 use Rattle.std.specs.List.{AllByRecursion}
+use Rattle.ann_types.specs.declared.params.Params.{Params}
 use Rattle.ann_types.specs.declared.entry.Entry.{Entry}
 use Rattle.ann_disk.specs.Image.{Unsynced, IsFree}
 use Rattle.ann_disk.specs.File.{BeginsAnImage}
 use Rattle.ann_frame.specs.Frames.{IsFrame, AreFrames, frames_bytes, entries_of}
+use Rattle.ann_pq.specs.Codebook.{Shown}
+use Rattle.ann_preamble.specs.declared.base.Base.{Base}
 use Rattle.ann_preamble.specs.Preamble.{Said, preamble_of}
-use Rattle.ann_log.specs.Text.{first_gate}
+use Rattle.ann_preamble.specs.Written.{preamble_bytes}
+use Rattle.ann_log.specs.Text.{Held, first_gate}
 
 -- the bytes have no preamble
 abbrev pub IsUnmade : List ℕ → Type 0
@@ -89,3 +93,17 @@ IsUnmadeOrText s entries bytes = IsUnmade bytes ⊎ IsText s entries bytes
 -- the front of what might have been left before, no preamble, or such a text
 abbrev pub IsFrontOrText : Unsynced → Said → List Entry → List ℕ → Type 0
 IsFrontOrText before s entries bytes = BeginsAnImage before bytes ⊎ IsUnmadeOrText s entries bytes
+
+-- what a log holds with these
+abbrev pub held_in : Params → Shown → Base → List Entry → Held
+held_in params book base entries = record { params = params; book = book; base = base; entries = entries }
+
+-- The bytes of a file that was written anew: a preamble with an open made byte, the frames of the entries, each behind an
+-- open gate, and a last gate 0. The first of these gates ends the preamble.
+pub record IsWritten (held : Held) (generation : ℕ) (bytes : List ℕ) : Type 0 where
+  pub frames : List ℕ
+  pub are : AreTail held.params.d frames held.entries
+  pub first : ℕ
+  pub rest : List ℕ
+  pub gates : frames ++ 0 ∷ [] ≡ first ∷ rest
+  pub spelled : bytes ≡ preamble_bytes 1 held.params generation held.base held.book.bytes first ++ rest

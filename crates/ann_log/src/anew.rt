@@ -4,7 +4,7 @@ ghost use Rattle.ann_disk.specs.Causes.{HasCause};
 ghost use Rattle.ann_disk.specs.File.{LeavesOnly};
 ghost use Rattle.ann_disk.specs.Image.{clean};
 ghost use Rattle.ann_frame.specs.Frames.{AreEntries, HaveComponents, frame_bytes};
-ghost use Rattle.ann_log.specs.Anew.{IsUnmade, StaysShut, HoldsTail, IsHead, opened, IsUnmadeOr, IsFrontOrUnmade, IsUnmadeOrWhole, IsFrontOrWhole, HoldsText, IsUnmadeOrText, IsFrontOrText};
+ghost use Rattle.ann_log.specs.Anew.{IsUnmade, StaysShut, HoldsTail, IsHead, opened, IsUnmadeOr, IsFrontOrUnmade, IsUnmadeOrWhole, IsFrontOrWhole, HoldsText, IsUnmadeOrText, IsFrontOrText, IsWritten, held_in};
 ghost use Rattle.ann_log.specs.LogView.{HasRoom, IsSaid};
 ghost use Rattle.ann_log.specs.Text.{said_in};
 
@@ -201,6 +201,7 @@ pub(crate) fn write_text<F: LogFile>(
     requires each { HaveComponents params.now.d entries.now }
     ensures room { HasRoom params.now.d room.new.frame.items room.new.preamble.items }
     ensures text { IfOk result (λ gate. HoldsText F.tells (said_in params.now book.now base.now generation) entries.now gate (F.seen file.new)) }
+    ensures written { F.tells → OnOk result (IsWritten (held_in params.now book.now base.now entries.now) generation (F.seen file.new)) }
     ensures rest { F.tells → OnOk result (F.unsynced file.new ≡ clean (F.seen file.new)) }
     // A crash meanwhile leaves the front of what it might have left before, no preamble, or this text.
     ensures during { F.tells → LeavesOnly F.past F.unsynced file.old file.new (IsFrontOrText (F.unsynced file.old) (said_in params.now book.now base.now generation) entries.now) }

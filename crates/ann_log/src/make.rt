@@ -6,7 +6,7 @@ ghost use Rattle.ann_disk.specs.Causes.{Rose};
 ghost use Rattle.ann_disk.specs.Image.{clean};
 ghost use Rattle.ann_preamble.specs.Base.{is_base};
 ghost use Rattle.ann_preamble.specs.Preamble.{preamble_of, no_base};
-ghost use Rattle.ann_log.specs.Anew.{IsUnmade, HoldsText};
+ghost use Rattle.ann_log.specs.Anew.{IsUnmade, HoldsText, IsWritten};
 ghost use Rattle.ann_log.specs.Causes.{HaveLater, RoseIn};
 ghost use Rattle.ann_log.specs.LogView.{HasRoom, IsSaid, files_of, held_of};
 ghost use Rattle.ann_log.specs.Making.{base_alone, held_with, IsSynced, HoldsNothing, IsNothingOr, IsNoIndexOr, IsUnmadeBy, IsFresh};
@@ -102,6 +102,7 @@ fn write_both<F: LogFile>(
     requires said { IsSaid (said_in params.now book.now base.now 1) }
     ensures room { HasRoom params.now.d room.new.frame.items room.new.preamble.items }
     ensures text { IfOk result (λ gate. HoldsText F.tells (said_in params.now book.now base.now 1) [] gate (F.seen files.new.first)) }
+    ensures written { F.tells → OnOk result (IsWritten (held_with params.now book.now base.now) 1 (F.seen files.new.first)) }
     ensures rest { F.tells → OnOk result (IsSynced (F.seen files.new.first) (F.unsynced files.new.first) × (F.seen files.new.second ≡ []) × IsSynced (F.seen files.new.second) (F.unsynced files.new.second)) }
     // Where a crash before it leaves no index or an empty one, a crash at any moment of it does, or it leaves the base alone.
     ensures during { F.tells → EachPair F.unsynced HoldsNothing files.old → LeavePairs F.past F.unsynced files.old files.new (IsNothingOr (F.unsynced files.old.first) (F.unsynced files.old.second) (held_with params.now book.now base.now)) }
@@ -132,6 +133,8 @@ impl<F: LogFile> Log<F> {
         ensures held { F.tells → IfOk result (λ log. held_of log ≡ base_alone params.now book.now no_base) }
         ensures constant { IfOk result (IsFresh params.now (codebook params.now.d params.now.m book.now) no_base) }
         ensures refused { F.tells → IfErr result (λ refused. IsUnmadeBy F.seen F.unsynced F.past (base_alone params.now book.now no_base) files refused.files refused.why) }
+        // The first file is a preamble and a gate, byte for byte, and the second is empty.
+        ensures written { F.tells → IfOk result (λ log. IsWritten (held_of log) 1 (F.seen log.log) × (F.seen log.other ≡ [])) }
         // Where a crash before the call leaves no index or an empty one, a crash at any moment of it does.
         ensures during { F.tells → EachPair F.unsynced HoldsNothing files → IfOk result (λ log. LeavePairs F.past F.unsynced files (files_of log) HoldsNothing) }
         ensures during_refused { F.tells → EachPair F.unsynced HoldsNothing files → IfErr result (λ refused. LeavePairs F.past F.unsynced files refused.files HoldsNothing) }
@@ -163,6 +166,8 @@ impl<F: LogFile> Log<F> {
         ensures held { F.tells → IfOk result (λ log. held_of log ≡ base_alone params.now book.now base.now) }
         ensures constant { IfOk result (IsFresh params.now (codebook params.now.d params.now.m book.now) base.now) }
         ensures refused { F.tells → IfErr result (λ refused. IsUnmadeBy F.seen F.unsynced F.past (base_alone params.now book.now base.now) files refused.files refused.why) }
+        // The first file is a preamble and a gate, byte for byte, and the second is empty.
+        ensures written { F.tells → IfOk result (λ log. IsWritten (held_of log) 1 (F.seen log.log) × (F.seen log.other ≡ [])) }
         // Where a crash before the call leaves no index or an empty one, a crash at any moment of it leaves no index, an
         // empty one where a crash before might have left one, or the base alone.
         ensures during { F.tells → EachPair F.unsynced HoldsNothing files → IfOk result (λ log. LeavePairs F.past F.unsynced files (files_of log) (IsNothingOr (F.unsynced files.first) (F.unsynced files.second) (base_alone params.now book.now base.now))) }
@@ -201,7 +206,7 @@ impl<F: LogFile> Log<F> {
         requires room { HasRoom params.d room.frame.items room.preamble.items }
         requires text { HoldsText F.tells (said_in params book base 1) [] gate (F.seen files.first) }
         requires rest { F.tells → IsSynced (F.seen files.first) (F.unsynced files.first) × (F.seen files.second ≡ []) × IsSynced (F.seen files.second) (F.unsynced files.second) }
-        ensures files { files_of result ≡ files }
+        ensures files { (files_of result ≡ files) × (result.log ≡ files.first) × (result.other ≡ files.second) }
         ensures held { F.tells → held_of result ≡ held_with params book base }
         ensures constant { IsFresh params book base result }
         ensures after { F.tells → EachPair F.unsynced (StandsFor (held_of result)) (files_of result) }

@@ -1,11 +1,12 @@
 // Renewing a log: the other file is written anew, and then the log's file is cut to nothing.
-ghost use Rattle.std.specs.Prelude.{◌≡◌, ◌+◌, ◌-◌, ◌<◌, ◌^◌, ◌↔◌, true, false, OnOk, OnErr, IsTrue, IsErr};
+ghost use Rattle.std.specs.Prelude.{◌≡◌, ◌+◌, ◌-◌, ◌<◌, ◌^◌, ◌↔◌, ◌⊎◌, [], true, false, OnOk, OnErr, IsTrue, IsErr};
 ghost use Rattle.ann_frame.specs.Frames.{HaveComponents};
 ghost use Rattle.ann_preamble.specs.Base.{is_base};
+ghost use Rattle.ann_log.specs.Anew.{IsWritten};
 ghost use Rattle.ann_log.specs.Causes.{HaveLater, RoseIn};
 ghost use Rattle.ann_log.specs.LogView.{files_of, held_of};
 ghost use Rattle.ann_log.specs.Pairs.{EachPair, LeavePairs};
-ghost use Rattle.ann_log.specs.Renewed.{renewed, IsOneOf, IsOldOrNew, opposite};
+ghost use Rattle.ann_log.specs.Renewed.{renewed, HoldsAt, IsTurned, IsOldOrNew, opposite};
 ghost use Rattle.ann_log.specs.Text.{StandsFor};
 
 use crate::anew::write_text;
@@ -40,8 +41,10 @@ impl<F: LogFile> Log<F> {
         requires open { self.old.is_closed ≡ false }
         requires generation { self.old.generation < 2 ^ 64 - 1 }
         ensures renewed { F.tells → OnOk result (held_of self.new ≡ renewed (held_of self.old) base.now tail.now) }
-        ensures refused { F.tells → OnErr result (IsOneOf (held_of self.old) (renewed (held_of self.old) base.now tail.now) (held_of self.new)) }
-        ensures generation { OnOk result (self.new.generation ≡ self.old.generation + 1) }
+        ensures refused { F.tells → OnErr result (HoldsAt (held_of self.old) self.old.generation self.new ⊎ HoldsAt (renewed (held_of self.old) base.now tail.now) (self.old.generation + 1) self.new) }
+        ensures turned { OnOk result (IsTurned self.old base.now self.new) }
+        // Its file is a preamble and frames, byte for byte, and the other file is empty.
+        ensures written { F.tells → OnOk result (IsWritten (held_of self.new) self.new.generation (F.seen self.new.log) × (F.seen self.new.other ≡ [])) }
         ensures closed { IsTrue self.new.is_closed ↔ IsErr result }
         ensures constant { (self.new.params ≡ self.old.params) × (self.new.book ≡ self.old.book) }
         // A crash at any moment of the call leaves what the log held before it, or all that is new.
@@ -63,8 +66,9 @@ impl<F: LogFile> Log<F> {
         requires open { self.old.is_closed ≡ false }
         requires generation { self.old.generation < 2 ^ 64 - 1 }
         ensures renewed { F.tells → OnOk result (held_of self.new ≡ renewed (held_of self.old) base.now tail.now) }
-        ensures kept { F.tells → OnErr result (held_of self.new ≡ held_of self.old) }
-        ensures generation { OnOk result (self.new.generation ≡ self.old.generation + 1) }
+        ensures kept { F.tells → OnErr result (HoldsAt (held_of self.old) self.old.generation self.new) }
+        ensures turned { OnOk result (IsTurned self.old base.now self.new) }
+        ensures written { F.tells → OnOk result (IsWritten (held_of self.new) self.new.generation (F.seen self.new.log)) }
         ensures closed { IsTrue self.new.is_closed ↔ IsErr result }
         ensures constant { (self.new.params ≡ self.old.params) × (self.new.book ≡ self.old.book) }
         ensures during { F.tells → LeavePairs F.past F.unsynced (files_of self.old) (files_of self.new) (IsOldOrNew (held_of self.old) (renewed (held_of self.old) base.now tail.now)) }
@@ -97,6 +101,8 @@ impl<F: LogFile> Log<F> {
     fn cut_other(&mut self) -> Result<(), Disk>
         requires open { self.old.is_closed ≡ false }
         ensures held { F.tells → held_of self.new ≡ held_of self.old }
+        ensures log { (self.new.log ≡ self.old.log) × (self.new.side ≡ self.old.side) × (self.new.base ≡ self.old.base) }
+        ensures cut { F.tells → OnOk result (F.seen self.new.other ≡ []) }
         ensures closed { IsTrue self.new.is_closed ↔ IsErr result }
         ensures constant { (self.new.params ≡ self.old.params) × (self.new.book ≡ self.old.book) × (self.new.generation ≡ self.old.generation) }
         ensures during { F.tells → LeavePairs F.past F.unsynced (files_of self.old) (files_of self.new) (StandsFor (held_of self.old)) }

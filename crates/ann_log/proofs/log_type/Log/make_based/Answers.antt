@@ -15,7 +15,7 @@ returns-in-Ok-write_both-clause-during g c told nothing =
     let D = g.F.LogFile in
     let old = c.args.files in
     let held = base_alone c.args.params.now c.args.book.now c.args.base.now in
-    subst (λ f. LeavePairs D.past D.unsynced old f (IsNothingOr (D.unsynced old.first) (D.unsynced old.second) held)) (sym c.fresh.ensures.files)
+    subst (λ f. LeavePairs D.past D.unsynced old f (IsNothingOr (D.unsynced old.first) (D.unsynced old.second) held)) (sym c.fresh.ensures.files.0)
     (after_read D.past D.unsynced D.seen old c.gather.new.files (c.gather.ensures.same told) held nothing c.write_both.new.files
     (held_with c.args.params.now c.in-Ok.parts.0 c.args.base.now) (ap (λ b. held_with c.args.params.now b c.args.base.now) c.in-Ok.ensures.book) (c.write_both.ensures.during told))
 

@@ -1,6 +1,6 @@
 use Rattle.std.proofs.Common.{◌≡◌, ◌+◌, ◌∙◌, refl, sym, ap, subst, arith, List, ℕ, false, length}
 use Rattle.ann_types.specs.declared.entry.Entry.{Entry}
-use Rattle.ann_log.specs.Anew.{IsFrontOrText}
+use Rattle.ann_log.specs.Anew.{IsFrontOrText, IsWritten, held_in}
 use Rattle.ann_log.specs.LogView.{files_of, files_in, held_of, counted}
 use Rattle.ann_log.specs.Pairs.{LeavePairs}
 use Rattle.ann_log.specs.Renewed.{renewed, IsOldOrNew}
@@ -80,3 +80,17 @@ returns-clause-renewed g c told =
     ∙ c.items.ensures in
     subst (λ v. record { params = i.params; book = i.book; base = c.args.base.now; entries = counted t (length c.items-2.result.now) (D.seen c.swap.new.x) } ≡ renewed (held_of v) c.args.base.now c.args.tail.now) c.self.view_is
     (ap (λ (e : List Entry). record { params = i.params; book = i.book; base = c.args.base.now; entries = e }) entries)
+
+pub returns-clause-written : goal.returns-clause-written
+returns-clause-written g c told =
+    let D = g.F.LogFile in
+    let i = c.self.inside in
+    let t = said_in i.params i.book c.args.base.now (i.generation + 1) in
+    let new = c.write_text-written.new.file in
+    let counts : length c.items-2.result.now ≡ length c.items.result.now = ap length (c.items-2.ensures ∙ sym c.items.ensures) in
+    let entries : counted t (length c.items-2.result.now) (D.seen c.swap.new.x) ≡ c.items.result.now =
+    ap (λ f. counted t (length c.items-2.result.now) (D.seen f)) c.swap.ensures.x_after
+    ∙ ap (λ (n : ℕ). counted t n (D.seen new)) counts
+    ∙ all_counted t c.items.result.now (D.seen new) (c.in-Ok.ensures.text.text told) in
+    subst (λ e. IsWritten (held_in i.params i.book c.args.base.now e) (i.generation + 1) (D.seen c.swap.new.x)) (sym entries)
+    (subst (λ f. IsWritten (held_in i.params i.book c.args.base.now c.items.result.now) (i.generation + 1) (D.seen f)) (sym c.swap.ensures.x_after) (c.in-Ok.ensures.written told))
