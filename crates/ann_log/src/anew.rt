@@ -8,8 +8,8 @@ ghost use Rattle.ann_log.specs.Anew.{IsUnmade, StaysShut, HoldsTail, IsHead, ope
 ghost use Rattle.ann_log.specs.LogView.{HasRoom, IsSaid};
 ghost use Rattle.ann_log.specs.Text.{said_in};
 
-use ann_disk::{Failed, LogFile, cut_any, write_synced};
 use crate::room::Room;
+use ann_disk::{Failed, LogFile, cut_any, write_synced};
 use ann_frame::write_frame;
 use ann_pq::Codebook;
 use ann_preamble::{Base, write};
@@ -211,11 +211,5 @@ pub(crate) fn write_text<F: LogFile>(
 {
     book.known();
     write(params, book.bytes(), base, generation, &mut room.preamble);
-    write_anew(
-        file,
-        &room.preamble,
-        entries,
-        params.d,
-        &mut room.frame,
-    )
+    write_anew(file, &room.preamble, entries, params.d, &mut room.frame)
 }

@@ -1,5 +1,6 @@
-use crate::{Files, Log, OpenRefused, OpenWhy, inspect_log};
+use crate::{Base, Entries, Files, Log, MakeRefused, MakeWhy, OpenRefused, OpenWhy, inspect_log};
 use ann_disk::MemoryFile;
+use ann_preamble::Preamble;
 use ann_types::Entry;
 use std::alloc::{AllocError, Global};
 use std::test::Fail;
@@ -128,6 +129,168 @@ fn a_failing_call_closes_the_log(rt: HostRuntime) -> Result<(), Fail> {
             assert!(rt;
                 found == Ok(few) || failing < 16 && found == Ok(few + 1),
                 "{failing} {chooser}"
+            );
+        }
+    }
+    Ok(())
+}
+
+// Two files, of which the second has no bytes. Of the calls of each, one may fail.
+fn failing_files(
+    alloc: Global,
+    bytes: &[u8],
+    first: u64,
+    second: u64,
+) -> Result<Files<MemoryFile>, AllocError> {
+    Ok(Files {
+        first: MemoryFile::new(alloc, bytes, &[first])?,
+        second: MemoryFile::new(alloc, &[], &[second])?,
+    })
+}
+
+// The calls of the first file and of the second that fail while a log is made; 0 is none.
+const MAKING: [(u64, u64); 15] = [
+    (0, 0),
+    (1, 0),
+    (2, 0),
+    (3, 0),
+    (4, 0),
+    (5, 0),
+    (6, 0),
+    (7, 0),
+    (8, 0),
+    (9, 0),
+    (10, 0),
+    (0, 1),
+    (0, 2),
+    (0, 3),
+    (0, 4),
+];
+
+#[test]
+fn a_failing_call_leaves_no_index(rt: HostRuntime) -> Result<(), Fail> {
+    let alloc = rt.alloc();
+    let mut bytes = text(alloc)?;
+    let found = Preamble::read(alloc, &bytes)?.expect(&rt, "a preamble");
+    bytes.resize(585, 0)?;
+    bytes.push(0)?;
+    for (first, second) in MAKING {
+        let files = failing_files(alloc, &[], first, second)?;
+        let fails = first != 0 || second != 0;
+        let left = match Log::make(alloc, files, &found.params, found.book.bytes()) {
+            Ok(log) => {
+                let files = log.into_files();
+                assert!(rt;
+                    !fails && files.first.bytes() == &bytes[..],
+                    "{first} {second}"
+                );
+                files
+            }
+            Err(MakeRefused { why, files }) => {
+                assert!(rt; fails && why == MakeWhy::Disk, "{first} {second}");
+                files
+            }
+        };
+        for chooser in 0..20 {
+            let outcome = reopened(alloc, &left, chooser)?;
+            assert!(rt;
+                outcome == Ok(0) || fails && outcome == Err(OpenWhy::NoIndex),
+                "{first} {second} {chooser}"
+            );
+        }
+    }
+    Ok(())
+}
+
+#[test]
+fn no_log_is_made_over_another(rt: HostRuntime) -> Result<(), Fail> {
+    let alloc = rt.alloc();
+    let bytes = text(alloc)?;
+    let found = Preamble::read(alloc, &bytes)?.expect(&rt, "a preamble");
+    let files = failing_files(alloc, &bytes, 0, 0)?;
+    match Log::make(alloc, files, &found.params, found.book.bytes()) {
+        Ok(_log) => Err(Fail::from("made")),
+        Err(MakeRefused { why, files }) => {
+            assert_eq!(rt; why, MakeWhy::IndexThere);
+            assert_eq!(rt; files.first.bytes(), &bytes[..]);
+            Ok(())
+        }
+    }
+}
+
+// The base behind the Begin at position 9.
+const BASE: Base = Base {
+    position: 11,
+    next: 7,
+    segment: 19,
+};
+
+// The generation and the length of the list that an image of these files is opened with.
+fn found_at(
+    alloc: Global,
+    files: &Files<MemoryFile>,
+    chooser: u64,
+) -> Result<Option<(u64, u64)>, AllocError> {
+    let image = Files {
+        first: files.first.images(chooser)?,
+        second: files.second.images(chooser)?,
+    };
+    match Log::open(alloc, image) {
+        Ok((log, _entries)) => Ok(Some((log.generation(), log.count()))),
+        Err(_) => Ok(None),
+    }
+}
+
+// The calls of the first file and of the second that fail while a log is renewed, behind three calls of opening.
+const RENEWING: [(u64, u64); 13] = [
+    (0, 0),
+    (0, 4),
+    (0, 5),
+    (0, 6),
+    (0, 7),
+    (0, 8),
+    (0, 9),
+    (0, 10),
+    (0, 11),
+    (0, 12),
+    (0, 13),
+    (4, 0),
+    (5, 0),
+];
+
+// A log with one entry is renewed with a base and two entries.
+#[test]
+fn a_failing_call_leaves_the_old_or_the_new(rt: HostRuntime) -> Result<(), Fail> {
+    let alloc = rt.alloc();
+    let bytes = text(alloc)?;
+    let mut tail = Entries::new(alloc);
+    tail.push(Entry::Begin { by: 3 })?;
+    tail.push(Entry::Delete { by: 3, tag: 7 })?;
+    for (first, second) in RENEWING {
+        let Ok((mut log, _entries)) = Log::open(alloc, failing_files(alloc, &bytes, first, second)?)
+        else {
+            return Err(Fail::from("not opened"));
+        };
+        if log.is_closed() || log.generation() > 1 {
+            return Err(Fail::from("not open"));
+        }
+        let fails = first != 0 || second != 0;
+        let answer = log.renew(&BASE, &tail);
+        assert_eq!(rt;
+            (answer.is_err(), log.is_closed()),
+            (fails, fails),
+            "{first} {second}"
+        );
+        let left = log.into_files();
+        if !fails {
+            let sizes = (left.first.bytes().len(), left.second.bytes().len());
+            assert_eq!(rt; sizes, (0, 609));
+        }
+        for chooser in 0..20 {
+            let outcome = found_at(alloc, &left, chooser)?;
+            assert!(rt;
+                outcome == Some((2, 13)) || fails && outcome == Some((1, 1)),
+                "{first} {second} {chooser}"
             );
         }
     }

@@ -44,8 +44,7 @@ invariant_of-self g c =
     let D = g.F.LogFile in
     let i = c.self.inside in
     let sound = c.self.invariant.0 in
-    let s = said_in i.params i.book i.base i.generation in
-    (
+    let s = said_in i.params i.book i.base i.generation in (
       record {
         said = sound.said;
         end = sound.end;

@@ -7,10 +7,9 @@ use Rattle.ann_log.proofs.log_type.Log.fresh.Goals as goal
 pub invariant_of-result : goal.invariant_of-result
 invariant_of-result g c =
     let D = g.F.LogFile in
-    let files = c.args.files in
-    (
+    let files = c.args.files in (
       fresh_sound D.tells (said_in c.args.params c.args.book c.args.base 1) c.args.gate (D.seen files.first) (D.seen files.second) (D.unsynced files.first) (D.unsynced files.second) c.requires.text
-      (λ told. (c.requires.rest told).1) (λ told. (c.requires.rest told).0) (λ told. (c.requires.rest told).2) c.requires.said,
+          (λ told. (c.requires.rest told).1) (λ told. (c.requires.rest told).0) (λ told. (c.requires.rest told).2) c.requires.said,
       c.requires.room,
     )
 

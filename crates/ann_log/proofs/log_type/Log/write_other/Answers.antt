@@ -58,11 +58,10 @@ invariant_of-self-2 g c =
     let s = said_in i.params i.book i.base i.generation in
     let t = said_in i.params i.book c.args.base.now (i.generation + 1) in
     let new = c.write_text-written.new.file in
-    let counts : length c.items-2.result.now ≡ length c.items.result.now = ap length (c.items-2.ensures ∙ sym c.items.ensures) in
-    (
+    let counts : length c.items-2.result.now ≡ length c.items.result.now = ap length (c.items-2.ensures ∙ sym c.items.ensures) in (
       same_sound D.seen D.unsynced D.tells t c.in-Ok.gate (length c.items-2.result.now) i.closed _ c.opposite-self-inside.result new c.swap.new.x i.log c.swap.new.y c.opposite-self-inside.ensures c.swap.ensures.x_after c.swap.ensures.y_after
-      (turned_sound D.tells i.side s t (D.seen i.log) (D.seen i.other) (D.unsynced i.log) (D.unsynced i.other) i.gate i.count i.closed sound c.items.result.now (D.seen new) (D.unsynced new) c.in-Ok.gate (length c.items-2.result.now)
-      (record { base = c.requires.base; book = sound.said.book; sizes = sound.said.sizes }) (omega arith) open_now c.in-Ok.ensures.text c.in-Ok.ensures.rest counts),
+          (turned_sound D.tells i.side s t (D.seen i.log) (D.seen i.other) (D.unsynced i.log) (D.unsynced i.other) i.gate i.count i.closed sound c.items.result.now (D.seen new) (D.unsynced new) c.in-Ok.gate (length c.items-2.result.now)
+          (record { base = c.requires.base; book = sound.said.book; sizes = sound.said.sizes }) (omega arith) open_now c.in-Ok.ensures.text c.in-Ok.ensures.rest counts),
       c.write_text-written.ensures.room,
     )
 
