@@ -1,4 +1,5 @@
 pub mod AtRest
+pub mod Beginnings
 pub mod Behind
 pub mod Buffers
 pub mod Extending
@@ -7,6 +8,7 @@ pub mod Gates
 pub mod Nothing
 pub mod Opening
 pub mod Pairs
+pub mod Results
 pub mod Sizes
 pub mod Standing
 pub mod Tails

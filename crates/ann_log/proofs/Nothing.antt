@@ -201,13 +201,13 @@ module _ (u v : Unsynced) (one two : List ℕ) (one_is : IsImage u one) (two_is 
   Was = MayBeEmpty u v
 
   bare_first : (a : List ℕ) → IsImage u a → HoldsNothing a two → IsBare Was a
-  bare_first a is (inl no) = unmade (neither_made a two no).0
+  bare_first a is (inl clear) = unmade (neither_made a two clear).0
   bare_first a is (inr (s, base, text)) =
       bare_with Was a (preamble_of a) s refl (sym (beside_second a two (neither_made one two none).1) ∙ text) base
       (record { first = a; second = two; first_image = is; second_image = two_is; empty = (s, base, text) })
 
   bare_second : (b : List ℕ) → IsImage v b → HoldsNothing one b → IsBare Was b
-  bare_second b is (inl no) = unmade (neither_made one b no).1
+  bare_second b is (inl clear) = unmade (neither_made one b clear).1
   bare_second b is (inr (s, base, text)) =
       bare_with Was b (preamble_of b) s refl (sym (beside_first one b (neither_made one two none).0) ∙ text) base
       (record { first = one; second = b; first_image = one_is; second_image = is; empty = (s, base, text) })
@@ -227,7 +227,7 @@ module _ (u v : Unsynced) (one two : List ℕ) (one_is : IsImage u one) (two_is 
     IsLeft c = IsBare Was c ⊎ IsText said held.entries c
 
     left_text : (a b c : List ℕ) → IsLeft c → log_text a b ≡ text_with (preamble_of c) c → IsNothingOr u v held a b
-    left_text a b c (inl (unmade no)) is = inl (is ∙ ap (λ (p : Option Said). text_with p c) no)
+    left_text a b c (inl (unmade clear)) is = inl (is ∙ ap (λ (p : Option Said). text_with p c) clear)
     left_text a b c (inl (empty s says base text was)) is = inr (inl ((s, base, is ∙ ap (λ (p : Option Said). text_with p c) says ∙ text), was))
     left_text a b c (inr text) is = inr (inr (generation, is ∙ ap (λ (p : Option Said). text_with p c) text.says ∙ text_here said held.entries c text))
 
@@ -236,7 +236,7 @@ module _ (u v : Unsynced) (one two : List ℕ) (one_is : IsImage u one) (two_is 
 
     left_first : (a : List ℕ) → IsFrontOrText u said held.entries a → IsLeft a
     left_first a (inl begins) = inl (front_first a begins)
-    left_first a (inr (inl no)) = inl (unmade no)
+    left_first a (inr (inl clear)) = inl (unmade clear)
     left_first a (inr (inr text)) = inr text
 
     -- while the second file is cut
@@ -249,11 +249,11 @@ module _ (u v : Unsynced) (one two : List ℕ) (one_is : IsImage u one) (two_is 
 
 -- before anything was done
 pub left_before : (u v : Unsynced) (held : Held) (a b : List ℕ) → IsImage u a → IsImage v b → HoldsNothing a b → IsNothingOr u v held a b
-left_before u v held a b one two (inl no) = inl no
+left_before u v held a b one two (inl clear) = inl clear
 left_before u v held a b one two (inr is) = inr (inl (is, record { first = a; second = b; first_image = one; second_image = two; empty = is }))
 
 -- what a read gives then
 pub left_read : (held : Held) (generation : ℕ) (a b : List ℕ) → IsUnmadeOrText (said_of held generation) held.entries a → IsUnmade b → IsNoIndexOr held a b
-left_read held generation a b (inl no) none = inl (no_preambles a b no none)
+left_read held generation a b (inl clear) none = inl (no_preambles a b clear none)
 left_read held generation a b (inr text) none =
     inr (generation, beside_second a b none ∙ ap (λ (p : Option Said). text_with p a) text.says ∙ text_here (said_of held generation) held.entries a text)

@@ -1,5 +1,5 @@
 -- What a file holds that was written anew.
-use Rattle.std.proofs.Common.{◌≡◌, ◌≢◌, ◌⊎◌, inl, inr, ℕ, zero, suc, ◌+◌, ◌-◌, ◌*◌, ◌<◌, ◌≤◌, ◌^◌, Bool, ◌==◌, if◌then◌else◌, List, [], ◌∷◌, ◌++◌, Some, None, length, take, drop, Result, Ok, Err, IfOk, refl, sym, ap, subst, ◌∙◌, arith, append_assoc, length-append}
+use Rattle.std.proofs.Common.{◌≡◌, ◌≢◌, ◌⊎◌, inl, inr, ℕ, zero, suc, ◌+◌, ◌-◌, ◌*◌, ◌<◌, ◌≤◌, ◌^◌, Bool, ◌==◌, if◌then◌else◌, List, [], ◌∷◌, ◌++◌, Some, None, length, take, drop, refl, sym, ap, subst, ◌∙◌, arith, append_assoc, length-append}
 use Rattle.std.specs.List.{concat}
 use Rattle.std.proofs.lemmas.List.{append-nil, take_at, take_all, drop_all}
 use Rattle.ann_types.specs.declared.entry.Entry.{Entry}
@@ -35,11 +35,6 @@ over_all len n items old out new len_is long same new_long is =
     ap (λ (l : List ℕ). take len (out ++ l)) none
     ∙ ap (take len) (append-nil out ∙ all)
     ∙ take_all len new (omega (arith, len_is, new_long))
-
--- of what was got more is said
-pub if_ok : {E : Type 0} (r : Result ℕ E) (P Q : ℕ → Type 0) → ((x : ℕ) → P x → Q x) → IfOk r P → IfOk r Q
-if_ok (Ok x) P Q more is = more x is
-if_ok (Err e) P Q more is = tt
 
 -- ---- a preamble and what is behind it
 

@@ -209,3 +209,33 @@ same_sound seen unsynced tells s gate count closed side side' x x' y y' sides xs
 pub same_files : {F : Type 0} (side side' : Side) (x x' y y' : F) → side' ≡ opposite side → x' ≡ x → y' ≡ y → files_in side' x' y' ≡ files_in side y x
 same_files side side' x x' y y' sides xs ys =
     ap (λ d. files_in d x' y') sides ∙ ap (λ f. files_in (opposite side) f y') xs ∙ ap (λ f. files_in (opposite side) x f) ys ∙ files_turned side y x
+
+-- ---- a log that was just made
+
+module _ (tells : Type 0) (s : Said) (gate : ℕ) (seen other : List ℕ) (u v : Unsynced) (is : HoldsText tells s [] gate seen) (nothing : tells → other ≡ []) (synced : tells → u ≡ clean seen) (other_synced : tells → v ≡ clean other) where
+  pub fresh_rest : tells → IsAtRest First s seen other u v gate []
+  fresh_rest told =
+      let text = is.text told in
+      record {
+        head = text.head;
+        front = text.front;
+        shown = text.shown;
+        spelled = text.spelled;
+        place = text.place;
+        frames = text.frames;
+        shut = text.shut;
+        end = gate_here s [] seen text gate (is.last told);
+        says = text.says;
+        is_log = ap (choice_of First s) (short_unmade other (let long = ap length (nothing told) in omega (arith, long))) ∙ choice_none First s;
+        log_synced = synced told;
+        other_synced = other_synced told;
+      }
+
+  pub fresh_sound : IsSaid s → IsSound tells First s seen other u v gate 0 false
+  fresh_sound said = record {
+    said = said;
+    end = is.end;
+    few = omega arith;
+    whole = λ told. refl;
+    rest = λ told open_now. fresh_rest told;
+  }

@@ -1,10 +1,13 @@
 -- What making a log leaves.
-use Rattle.std.specs.Prelude.{◌≡◌, ◌⊎◌, ℕ, List, [], Result, Ok, Err}
+use Rattle.std.specs.Prelude.{◌≡◌, ◌⊎◌, ℕ, false, List, [], Result, Ok, Err}
 use Rattle.ann_types.specs.declared.params.Params.{Params}
+use Rattle.ann_pq.specs.Codebook.{Shown}
 use Rattle.ann_pq.specs.Format.{codebook}
-use Rattle.ann_disk.specs.Image.{Unsynced, IsImage}
+use Rattle.ann_disk.specs.Image.{Unsynced, IsImage, clean}
 use Rattle.ann_preamble.specs.Preamble.{Said, no_base}
 use Rattle.ann_preamble.specs.declared.base.Base.{Base}
+use Rattle.ann_preamble.specs.declared.choice.Side.TheVariants.{First}
+use Rattle.ann_log.specs.LogView.{LogView}
 use Rattle.ann_log.specs.Pairs.{AreUntouched}
 use Rattle.ann_log.specs.Text.{LogText, no_index, holds, log_text, Held, StandsFor, IsNoIndex}
 use Rattle.ann_log.specs.declared.files.Files.{Files}
@@ -12,8 +15,16 @@ use Rattle.ann_log.specs.declared.refused.MakeWhy.{MakeWhy}
 use Rattle.ann_log.specs.declared.refused.MakeWhy.TheVariants.{IndexThere, Disk, Memory}
 
 -- a base and no entries
+abbrev pub held_with : Params → Shown → Base → Held
+held_with params book base = record { params = params; book = book; base = base; entries = [] }
+
+-- the same with the codebook of these bytes
 abbrev pub base_alone : Params → List ℕ → Base → Held
-base_alone params book base = record { params = params; book = codebook params.d params.m book; base = base; entries = [] }
+base_alone params book base = held_with params (codebook params.d params.m book) base
+
+-- all of a file is on the disk
+abbrev pub IsSynced : List ℕ → Unsynced → Type 0
+IsSynced seen unsynced = unsynced ≡ clean seen
 
 -- the files stand for the empty list: nothing stood before it, and it has no entries
 abbrev pub IsEmpty : List ℕ → List ℕ → Type 0
@@ -38,6 +49,15 @@ IsNothingOr u v held first second = IsNoIndex first second ⊎ ((IsEmpty first s
 -- no index, or what is to be made
 abbrev pub IsNoIndexOr : Held → List ℕ → List ℕ → Type 0
 IsNoIndexOr held first second = IsNoIndex first second ⊎ StandsFor held first second
+
+-- a log that was just made: the first file is the log, and isn't closed
+pub record IsFresh {F : Type 0} (p : Params) (shown : Shown) (b : Base) (log : LogView F) : Type 0 where
+  pub params : log.params ≡ p
+  pub book : log.book ≡ shown
+  pub base : log.base ≡ b
+  pub generation : log.generation ≡ 1
+  pub side : log.side ≡ First
+  pub open_now : log.is_closed ≡ false
 
 module _ {F : Type 0} (seen : F → List ℕ) (unsynced : F → Unsynced) (past : F → List Unsynced) where
   -- What a refusal leaves. An index is there exactly where it says so, and is untouched. After a fault the files are untouched,

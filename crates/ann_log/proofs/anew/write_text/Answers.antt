@@ -3,7 +3,8 @@ use Rattle.ann_disk.proofs.Moments.{weaker}
 use Rattle.ann_preamble.specs.Written.{preamble_bytes, IsReadAgain}
 use Rattle.ann_log.specs.Anew.{HoldsTail, HoldsText, IsFrontOrWhole, IsFrontOrText, opened}
 use Rattle.ann_log.specs.Text.{said_in}
-use Rattle.ann_log.proofs.Texts.{is_head, written_over, book_again, if_ok, text_held, whole_text, front_text}
+use Rattle.ann_log.proofs.Results.{if_ok}
+use Rattle.ann_log.proofs.Texts.{is_head, written_over, book_again, text_held, whole_text, front_text}
 use Rattle.ann_log.proofs.anew.write_text.Goals as goal
 
 pub write_anew-requires-clause-head : goal.write_anew-requires-clause-head
