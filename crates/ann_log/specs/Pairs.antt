@@ -23,7 +23,8 @@ module _ {F : Type 0} (past : F → List Unsynced) (unsynced : F → Unsynced) w
   InTurn (stop ∷ stops) old new P = LeaveBoth old stop P × InTurn stops stop new P
 
   -- A crash at any moment since old leaves two files that have P. Between two stops the moments of the one file stand
-  -- with those of the other in any order, so where a call needs an order it has a stop there.
+  -- with those of the other in any order, so a call that needs an order has a stop there. Any call of a file may fail, and
+  -- what stands then is the last of these states; so no choice of stops hides an order that is wrong.
   pub record LeavePairs (old new : Files F) (P : List ℕ → List ℕ → Type 0) : Type 0 where
     pub stops : List (Files F)
     pub turns : InTurn stops old new P
