@@ -1,19 +1,19 @@
 -- What a log at rest stands for.
-use Rattle.std.proofs.Common.{◌≡◌, ◌≢◌, ℕ, ◌+◌, ◌*◌, ◌<◌, ◌≤◌, ◌^◌, List, [], ◌∷◌, ◌++◌, length, take, drop, false, Some, refl, sym, ap, subst, ◌∙◌, arith, length-append}
-use Rattle.std.proofs.lemmas.List.{take_at, drop_at, take_all}
+use Rattle.std.proofs.Common.{◌≡◌, ℕ, ◌+◌, ◌*◌, ◌<◌, ◌≤◌, ◌^◌, List, [], ◌∷◌, ◌++◌, length, take, drop, false, sym, ap, subst, ◌∙◌, arith, length-append}
+use Rattle.std.proofs.lemmas.List.{drop_at, take_all}
 use Rattle.ann_types.specs.declared.entry.Entry.{Entry}
-use Rattle.ann_disk.specs.Image.{Unsynced, IsImage, clean}
+use Rattle.ann_disk.specs.Image.{Unsynced, IsImage}
 use Rattle.ann_disk.proofs.Images.{clean_only}
 use Rattle.ann_preamble.specs.Preamble.{Said, preamble_of}
 use Rattle.ann_preamble.specs.declared.choice.Side.{Side}
 use Rattle.ann_preamble.specs.declared.choice.Side.TheVariants.{First, Second}
 use Rattle.ann_frame.specs.Text.{StandFor}
-use Rattle.ann_frame.specs.TextOf.{Text, text_of}
+use Rattle.ann_frame.specs.TextOf.{Text}
 use Rattle.ann_frame.proofs.Agrees.{text_stands}
 use Rattle.ann_frame.proofs.Growing.{stand_at_gate}
 use Rattle.ann_log.specs.LogView.{IsAtRest, IsSaid, IsSound, listed, counted, files_in, choice_of}
 use Rattle.ann_log.specs.Pairs.{EachPair}
-use Rattle.ann_log.specs.Text.{Held, said_of, StandsFor, holds, first_gate, file_text, log_text}
+use Rattle.ann_log.specs.Text.{Held, said_of, StandsFor, holds, first_gate, file_text}
 use Rattle.ann_log.proofs.Standing.{side_text, frames_text}
 
 module _ (side : Side) (s : Said) (log other : List ℕ) (u v : Unsynced) (gate : ℕ) (list : List Entry) (rest : IsAtRest side s log other u v gate list) where

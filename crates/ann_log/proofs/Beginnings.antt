@@ -1,7 +1,7 @@
 -- How making a log begins: the files are read, and nothing is done to them.
-use Rattle.std.proofs.Common.{◌≡◌, ℕ, List, sym, ap, subst, ◌∙◌}
-use Rattle.ann_disk.specs.Image.{Unsynced, IsImage, EachImage}
-use Rattle.ann_log.specs.Making.{HoldsNothing, IsNothingOr, IsEmpty}
+use Rattle.std.proofs.Common.{◌≡◌, ℕ, List, subst}
+use Rattle.ann_disk.specs.Image.{Unsynced, IsImage}
+use Rattle.ann_log.specs.Making.{HoldsNothing, IsNothingOr}
 use Rattle.ann_log.specs.Pairs.{EachPair, LeavePairs, AreUntouched}
 use Rattle.ann_log.specs.Text.{Held}
 use Rattle.ann_log.specs.declared.files.Files.{Files}

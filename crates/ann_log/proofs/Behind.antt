@@ -1,10 +1,9 @@
 -- What reading frames behind a preamble finds.
-use Rattle.std.proofs.Common.{◌≡◌, ℕ, ◌+◌, ◌-◌, ◌*◌, ◌≤◌, ◌<◌, ◌^◌, List, length, drop, Option, Some, refl, sym, ap, subst, ◌∙◌, arith, length-drop}
+use Rattle.std.proofs.Common.{◌≡◌, ℕ, ◌-◌, ◌*◌, ◌≤◌, ◌<◌, ◌^◌, List, length, drop, Option, Some, refl, ap, ◌∙◌, arith, length-drop}
 use Rattle.ann_preamble.specs.Preamble.{Said, preamble_of}
 use Rattle.ann_preamble.proofs.Agreed.{sound_in}
 use Rattle.ann_entry.proofs.Spelled.{AreBytes, bytes_drop}
 use Rattle.ann_frame.specs.Text.{StandFor}
-use Rattle.ann_frame.specs.TextOf.{text_of}
 use Rattle.ann_frame.specs.Found.{AreRefused}
 use Rattle.ann_frame.specs.declared.reading.Frames.{Frames}
 use Rattle.ann_frame.specs.declared.frames_refused.FramesRefused.{FramesRefused}
@@ -12,7 +11,7 @@ use Rattle.ann_frame.specs.declared.frames_refused.FramesRefused.TheVariants as 
 use Rattle.ann_frame.proofs.Agrees.{text_bad}
 use Rattle.ann_log.specs.Found.{IsFoundIn, IsRefused, refusal_of, IsInReach}
 use Rattle.ann_log.specs.LogView.{IsSaid}
-use Rattle.ann_log.specs.Text.{behind, first_gate, file_text, text_with}
+use Rattle.ann_log.specs.Text.{behind, first_gate, text_with}
 use Rattle.ann_log.proofs.Sizes.{stand_few, bad_few, base_small}
 
 module _ (bytes : List ℕ) (s : Said) (says : preamble_of bytes ≡ Some s) where

@@ -1,8 +1,7 @@
 -- The bytes of a buffer that were written.
-use Rattle.std.proofs.Common.{◌≡◌, ℕ, ◌+◌, ◌≤◌, List, [], ◌∷◌, ◌++◌, length, take, drop, refl, sym, ap, ◌∙◌, arith, length-append}
+use Rattle.std.proofs.Common.{◌≡◌, ℕ, ◌+◌, List, ◌++◌, length, take, drop, refl, ap, ◌∙◌, arith}
 use Rattle.std.proofs.lemmas.List.{take_at}
 use Rattle.ann_bytes.specs.LittleEndian.{with_field}
-use Rattle.ann_bytes.proofs.Fields.{length-with_field}
 
 module _ (n : ℕ) (out items : List ℕ) (long : length out ≡ length items) (whole : n ≡ length items) where
   -- what a buffer holds that was lent whole

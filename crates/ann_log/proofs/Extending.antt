@@ -1,27 +1,26 @@
 -- What the log's file stands for while a frame is stored, and after it.
-use Rattle.std.proofs.Common.{◌≡◌, ◌≢◌, ◌⊎◌, inl, inr, ⊎_elim, ℕ, ◌+◌, ◌*◌, ◌<◌, ◌≤◌, ◌^◌, List, [], ◌∷◌, ◌++◌, length, take, drop, true, false, Some, refl, sym, ap, subst, ◌∙◌, arith, append_assoc, length-append}
+use Rattle.std.proofs.Common.{◌≡◌, ◌≢◌, ◌⊎◌, inl, inr, ⊎_elim, ℕ, ◌+◌, ◌<◌, ◌^◌, List, [], ◌∷◌, ◌++◌, length, take, drop, true, false, Some, refl, sym, ap, subst, ◌∙◌, arith, append_assoc, length-append}
 use Rattle.std.proofs.lemmas.Bool.{cases_eq}
 use Rattle.std.proofs.lemmas.List.{take_at, drop_at, take_all}
 use Rattle.ann_types.specs.declared.entry.Entry.{Entry}
 use Rattle.ann_disk.specs.File.{LeavesOnly}
-use Rattle.ann_disk.specs.Image.{Unsynced, IsImage, clean}
+use Rattle.ann_disk.specs.Image.{Unsynced, clean}
 use Rattle.ann_preamble.specs.Preamble.{Said, preamble_of}
 use Rattle.ann_preamble.specs.declared.choice.Side.{Side}
 use Rattle.ann_preamble.specs.declared.choice.Side.TheVariants.{First, Second}
 use Rattle.ann_entry.proofs.Fronts.{length_entries}
-use Rattle.ann_entry.specs.EntryBytes.{entries_bytes}
 use Rattle.ann_frame.specs.Frames.{AreFrames, IsFrame, frame_bytes}
 use Rattle.ann_frame.specs.Text.{StandFor}
-use Rattle.ann_frame.specs.TextOf.{Text, text_of}
+use Rattle.ann_frame.specs.TextOf.{Text}
 use Rattle.ann_frame.proofs.Agrees.{text_stands}
 use Rattle.ann_frame.proofs.Growing.{frames_grow, stand_at_gate}
-use Rattle.ann_log.specs.LogView.{IsAtRest, IsSaid, IsSound, IsBeforeOrAfter, extended, listed, counted, files_in, choice_of}
+use Rattle.ann_log.specs.LogView.{IsAtRest, IsSound, IsBeforeOrAfter, extended, listed, counted, files_in, choice_of}
 use Rattle.ann_log.specs.Pairs.{LeavePairs}
 use Rattle.ann_log.specs.Storing.{MayHold}
-use Rattle.ann_log.specs.Text.{Held, said_of, StandsFor, holds, first_gate, file_text, log_text}
+use Rattle.ann_log.specs.Text.{Held, said_of, StandsFor, first_gate}
 use Rattle.ann_log.proofs.Pairs.{OnSide, resting, in_side}
 use Rattle.ann_log.proofs.Standing.{side_text, frames_text, says_same}
-use Rattle.ann_log.proofs.AtRest.{sound_at_rest, counted_here, ends}
+use Rattle.ann_log.proofs.AtRest.{counted_here}
 
 -- a file has this preamble and stands for these entries
 pub record HoldsIn (s : Said) (bytes : List ℕ) (list : List Entry) : Type 0 where

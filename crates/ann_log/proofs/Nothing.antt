@@ -1,15 +1,14 @@
 -- Files that are no index, or an empty one.
-use Rattle.std.proofs.Common.{◌≡◌, ◌≢◌, ◌⊎◌, inl, inr, ⊎_elim, ℕ, zero, suc, ◌+◌, ◌-◌, ◌*◌, ◌<◌, ◌≤◌, Bool, true, false, ◌==◌, ◌&&◌, nat_lt, if◌then◌else◌, List, [], ◌∷◌, ◌++◌, Option, Some, None, length, get_or, take, drop, refl, sym, ap, subst, ◌∙◌, arith, length-append, length-drop, length-take}
+use Rattle.std.proofs.Common.{◌≡◌, ◌≢◌, ◌⊎◌, inl, inr, ⊎_elim, ℕ, zero, suc, ◌+◌, ◌<◌, ◌≤◌, Bool, true, false, ◌==◌, ◌&&◌, nat_lt, if◌then◌else◌, List, [], ◌∷◌, ◌++◌, Option, Some, None, length, get_or, take, drop, refl, sym, ap, ◌∙◌, arith, length-append, length-drop, length-take}
 use Rattle.std.proofs.lemmas.Bool.{cases_eq}
-use Rattle.std.proofs.lemmas.Bool.Decides.{nat_tests, Decides-eqb}
+use Rattle.std.proofs.lemmas.Bool.Decides.{nat_tests}
 use Rattle.std.proofs.lemmas.List.{get_or-drop, get_or-take}
 use Rattle.ann_types.specs.declared.entry.Entry.{Entry}
 use Rattle.ann_entry.specs.EntryBytes.{entries_bytes}
 use Rattle.ann_disk.specs.File.{BeginsAnImage}
-use Rattle.ann_disk.specs.Image.{Unsynced, IsImage, EachImage}
+use Rattle.ann_disk.specs.Image.{Unsynced, IsImage}
 use Rattle.ann_preamble.specs.Preamble.{Said, preamble_of, no_base}
 use Rattle.ann_preamble.specs.Choice.{chosen}
-use Rattle.ann_preamble.specs.declared.choice.Side.{Side}
 use Rattle.ann_preamble.specs.declared.choice.Side.TheVariants.{First, Second}
 use Rattle.ann_preamble.proofs.Agreed.{fronts, sound_in, both}
 use Rattle.ann_preamble.proofs.Again.{not_same}
@@ -17,8 +16,8 @@ use Rattle.ann_frame.specs.Text.{size_of}
 use Rattle.ann_frame.specs.TextOf as framed
 use Rattle.ann_frame.specs.TextOf.{stands, bad, entries_in, is_whole, frames_text, text_of}
 use Rattle.ann_log.specs.Anew.{IsUnmade, IsText, IsUnmadeOrText, IsFrontOrText}
-use Rattle.ann_log.specs.Making.{IsEmpty, HoldsNothing, MayBeEmpty, IsNothingOr, IsNoIndexOr}
-use Rattle.ann_log.specs.Text.{LogText, no_index, bad_log, holds, behind, first_gate, file_text, text_with, text_on, log_text, IsNoIndex, Held, said_of, StandsFor}
+use Rattle.ann_log.specs.Making.{HoldsNothing, MayBeEmpty, IsNothingOr, IsNoIndexOr}
+use Rattle.ann_log.specs.Text.{no_index, holds, behind, first_gate, file_text, text_with, text_on, log_text, IsNoIndex, Held, said_of}
 use Rattle.ann_log.proofs.Turning.{text_here}
 
 -- ---- behind an open gate there is an entry

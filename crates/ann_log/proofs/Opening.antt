@@ -1,5 +1,5 @@
 -- What opening finds and leaves.
-use Rattle.std.proofs.Common.{◌≡◌, ◌≢◌, ℕ, ◌+◌, ◌-◌, ◌<◌, ◌≤◌, List, [], ◌∷◌, ◌++◌, length, take, drop, Some, refl, sym, ap, subst, ◌∙◌, arith, append_assoc, length-append, length-take, take-append-drop}
+use Rattle.std.proofs.Common.{◌≡◌, ℕ, ◌+◌, List, [], ◌∷◌, ◌++◌, length, take, drop, Some, refl, sym, ap, subst, ◌∙◌, arith, append_assoc, length-append, take-append-drop}
 use Rattle.std.proofs.lemmas.List.{take_at, take_all, take-take, length-take-le}
 use Rattle.ann_disk.specs.File.{Cut}
 use Rattle.ann_disk.specs.Image.{Unsynced, IsImage, clean}
@@ -11,8 +11,7 @@ use Rattle.ann_log.specs.Found.{IsFoundIn}
 use Rattle.ann_log.specs.LogView.{IsAtRest, choice_of, on_side, off_side}
 use Rattle.ann_log.specs.Pairs.{ReadAsBefore, MayBeCut}
 use Rattle.ann_log.specs.Text.{holds, first_gate, file_text, log_text}
-use Rattle.ann_log.proofs.Pairs.{OnSide}
-use Rattle.ann_log.proofs.Standing.{side_text, frames_text, says_same, shut_text, begins_with}
+use Rattle.ann_log.proofs.Standing.{side_text, says_same, shut_text, begins_with}
 
 module _ (bytes : List ℕ) (s : Said) (frames : Frames) (end : ℕ) (is : IsFoundIn bytes s frames end) where
   abbrev head : List ℕ

@@ -1,5 +1,5 @@
 -- How runs of calls over two files go on.
-use Rattle.std.proofs.Common.{◌≡◌, ℕ, List, [], ◌∷◌, ◌++◌, refl, sym, subst, Result, OnOk, OnErr}
+use Rattle.std.proofs.Common.{◌≡◌, ℕ, List, [], ◌∷◌, ◌++◌, refl, subst, Result, OnOk, OnErr}
 use Rattle.ann_disk.specs.File.{LeavesOnly}
 use Rattle.ann_disk.specs.Image.{Unsynced, IsImage, EachImage, clean}
 use Rattle.ann_disk.specs.declared.file.Failed.{Failed}
@@ -8,7 +8,7 @@ use Rattle.ann_disk.proofs.Moments.{started, after_sync, weaker, unchanged}
 use Rattle.ann_preamble.specs.declared.choice.Side.{Side}
 use Rattle.ann_preamble.specs.declared.choice.Side.TheVariants.{First, Second}
 use Rattle.ann_log.specs.LogView.{files_in}
-use Rattle.ann_log.specs.Pairs.{EachPair, LeaveBoth, InTurn, LeavePairs, AreUntouched}
+use Rattle.ann_log.specs.Pairs.{LeaveBoth, InTurn, LeavePairs, AreUntouched}
 use Rattle.ann_log.specs.declared.files.Files.{Files}
 
 -- the log's bytes and the other file's, put in the order of the files

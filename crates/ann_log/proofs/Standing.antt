@@ -1,8 +1,7 @@
 -- What the bytes of a log's file stand for.
-use Rattle.std.proofs.Common.{◌≡◌, ◌≢◌, inl, inr, ⊎_elim, ℕ, ◌+◌, ◌-◌, ◌<◌, ◌≤◌, List, [], ◌∷◌, ◌++◌, length, take, drop, Option, Some, None, refl, sym, ap, subst, ◌∙◌, arith, append_assoc, length-append, length-take, length-drop, take-append-drop}
-use Rattle.std.proofs.lemmas.List.{take_at, drop_at, take_all, take-take, length-take-le}
+use Rattle.std.proofs.Common.{◌≡◌, ◌≢◌, ℕ, ◌<◌, List, ◌∷◌, ◌++◌, length, take, drop, Option, Some, sym, ap, subst, ◌∙◌, arith, length-append, take-append-drop}
+use Rattle.std.proofs.lemmas.List.{take_at, drop_at}
 use Rattle.ann_types.specs.declared.entry.Entry.{Entry}
-use Rattle.ann_disk.specs.File.{Cut}
 use Rattle.ann_preamble.specs.Preamble.{Said, preamble_of}
 use Rattle.ann_preamble.specs.Choice.{chosen}
 use Rattle.ann_preamble.specs.declared.choice.Side.{Side}
@@ -13,7 +12,7 @@ use Rattle.ann_frame.specs.Text.{StandFor}
 use Rattle.ann_frame.proofs.Agrees.{text_stands}
 use Rattle.ann_frame.proofs.Growing.{frames_grow, stand_at_gate}
 use Rattle.ann_log.specs.LogView.{choice_of}
-use Rattle.ann_log.specs.Text.{LogText, holds, behind, first_gate, file_text, text_with, text_on, log_text}
+use Rattle.ann_log.specs.Text.{holds, behind, first_gate, file_text, text_with, text_on, log_text}
 use Rattle.ann_log.proofs.Pairs.{OnSide}
 
 -- two files stand for what the one stands for that is the log

@@ -1,11 +1,10 @@
 -- How a tail grows by a frame.
-use Rattle.std.proofs.Common.{◌≡◌, inl, inr, ℕ, zero, suc, ◌+◌, ◌-◌, ◌<◌, ◌≤◌, ◌^◌, List, [], ◌∷◌, ◌++◌, length, take, drop, min, refl, sym, ap, subst, ◌∙◌, arith, append_assoc, length-append, length-take, length-drop}
+use Rattle.std.proofs.Common.{◌≡◌, inl, inr, ℕ, zero, suc, ◌+◌, ◌-◌, ◌<◌, ◌≤◌, ◌^◌, List, [], ◌∷◌, ◌++◌, length, take, drop, refl, sym, ap, subst, ◌∙◌, arith, append_assoc, length-append, length-take}
 use Rattle.std.specs.List.{AllByRecursion}
 use Rattle.std.proofs.lemmas.Grind.{flat_map-append}
 use Rattle.std.proofs.lemmas.List.{append-nil, take_at, take_all}
 use Rattle.ann_types.specs.declared.entry.Entry.{Entry}
-use Rattle.ann_entry.specs.EntryBytes.{entries_bytes}
-use Rattle.ann_frame.specs.Frames.{AreEntries, AreFrames, IsFrame, frame_bytes, frames_bytes, entries_of}
+use Rattle.ann_frame.specs.Frames.{AreFrames, IsFrame, frame_bytes, frames_bytes, entries_of}
 use Rattle.ann_frame.proofs.Each.{all_append}
 use Rattle.ann_log.specs.Anew.{AreTail, HoldsTail, IsHead, opened, IsUnmadeOr, IsUnmadeOrWhole}
 

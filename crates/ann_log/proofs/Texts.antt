@@ -1,5 +1,5 @@
 -- What a file holds that was written anew.
-use Rattle.std.proofs.Common.{◌≡◌, ◌≢◌, ◌⊎◌, inl, inr, ℕ, zero, suc, ◌+◌, ◌-◌, ◌*◌, ◌<◌, ◌≤◌, ◌^◌, Bool, ◌==◌, if◌then◌else◌, List, [], ◌∷◌, ◌++◌, Some, None, length, take, drop, refl, sym, ap, subst, ◌∙◌, arith, append_assoc, length-append}
+use Rattle.std.proofs.Common.{◌≡◌, inl, inr, ℕ, ◌+◌, ◌-◌, ◌*◌, ◌≤◌, Bool, if◌then◌else◌, List, [], ◌∷◌, ◌++◌, Some, None, length, take, drop, refl, sym, ap, ◌∙◌, arith, append_assoc, length-append}
 use Rattle.std.specs.List.{concat}
 use Rattle.std.proofs.lemmas.List.{append-nil, take_at, take_all, drop_all}
 use Rattle.ann_types.specs.declared.entry.Entry.{Entry}
@@ -8,12 +8,11 @@ use Rattle.ann_types.specs.declared.params.Params.{Params}
 use Rattle.ann_bytes.specs.LittleEndian.{bytes_of}
 use Rattle.ann_pq.specs.Codebook.{Shown}
 use Rattle.ann_pq.specs.Format.{fault, codebook, IsCodebook}
-use Rattle.ann_frame.specs.Frames.{AreFrames}
-use Rattle.ann_preamble.specs.Preamble.{Said, magic_two, preamble_of, gate_place, book_place}
-use Rattle.ann_preamble.specs.Written.{params_fields, base_fields, preamble_bytes, said_with, IsReadAgain}
+use Rattle.ann_preamble.specs.Preamble.{Said, magic_two, preamble_of, book_place}
+use Rattle.ann_preamble.specs.Written.{params_fields, base_fields, preamble_bytes, IsReadAgain}
 use Rattle.ann_preamble.specs.declared.base.Base.{Base}
 use Rattle.ann_preamble.proofs.Again.{not_same, length-book}
-use Rattle.ann_log.specs.Anew.{IsUnmade, AreTail, HoldsTail, IsHead, opened, IsWhole, IsUnmadeOrWhole, IsFrontOrWhole, IsText, HoldsText, IsUnmadeOrText, IsFrontOrText, IsWritten, held_in}
+use Rattle.ann_log.specs.Anew.{HoldsTail, IsHead, opened, IsUnmadeOrWhole, IsFrontOrWhole, IsText, HoldsText, IsUnmadeOrText, IsFrontOrText, IsWritten, held_in}
 use Rattle.ann_log.specs.LogView.{IsSaid}
 use Rattle.ann_log.specs.Text.{said_in, first_gate}
 use Rattle.ann_log.proofs.Sizes.{frames_few}

@@ -1,25 +1,20 @@
 -- What two files stand for while the one is written anew and the other is cut to nothing.
-use Rattle.std.proofs.Common.{◌≡◌, ◌≢◌, ◌⊎◌, inl, inr, ⊎_elim, ℕ, ◌+◌, ◌*◌, ◌<◌, ◌≤◌, ◌^◌, Bool, true, false, nat_lt, if◌then◌else◌, List, [], ◌∷◌, ◌++◌, Option, Some, None, length, take, drop, refl, sym, ap, subst, ◌∙◌, arith, append_assoc, length-append}
+use Rattle.std.proofs.Common.{◌≡◌, ◌⊎◌, inl, inr, ℕ, ◌+◌, ◌<◌, Bool, false, nat_lt, if◌then◌else◌, List, [], ◌∷◌, ◌++◌, Some, None, length, take, drop, refl, sym, ap, subst, ◌∙◌, arith, length-append}
 use Rattle.std.proofs.lemmas.Bool.{lt-ltb}
 use Rattle.std.proofs.lemmas.Bool.Decides.{nat_tests}
-use Rattle.std.proofs.lemmas.List.{append-nil, drop_at, take_all}
+use Rattle.std.proofs.lemmas.List.{drop_at, take_all}
 use Rattle.ann_types.specs.declared.entry.Entry.{Entry}
-use Rattle.ann_types.specs.declared.params.Params.{Params}
-use Rattle.ann_pq.specs.Codebook.{Shown}
 use Rattle.ann_disk.specs.File.{Cut, BeginsAnImage}
-use Rattle.ann_disk.specs.Image.{Unsynced, IsImage, EachImage, clean}
+use Rattle.ann_disk.specs.Image.{Unsynced, IsImage, clean}
 use Rattle.ann_disk.proofs.Images.{clean_only}
 use Rattle.ann_preamble.specs.Preamble.{Said, preamble_of}
-use Rattle.ann_preamble.specs.Choice.{chosen}
-use Rattle.ann_preamble.specs.declared.base.Base.{Base}
 use Rattle.ann_preamble.specs.declared.choice.Side.{Side}
 use Rattle.ann_preamble.specs.declared.choice.Side.TheVariants.{First, Second}
 use Rattle.ann_preamble.proofs.Agreed.{fronts}
 use Rattle.ann_frame.specs.TextOf as framed
-use Rattle.ann_frame.specs.Text.{StandFor}
 use Rattle.ann_frame.proofs.Agrees.{text_stands}
 use Rattle.ann_frame.proofs.Growing.{stand_at_gate}
-use Rattle.ann_log.specs.Anew.{IsUnmade, IsText, HoldsText, IsFrontOrText}
+use Rattle.ann_log.specs.Anew.{IsText, HoldsText, IsFrontOrText}
 use Rattle.ann_log.specs.LogView.{IsAtRest, IsSaid, IsSound, choice_of, counted, listed, files_in}
 use Rattle.ann_log.specs.Pairs.{EachPair}
 use Rattle.ann_log.specs.Renewed.{opposite, IsOldOrNew}

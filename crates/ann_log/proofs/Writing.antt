@@ -1,9 +1,9 @@
 -- What the writes of one file leave.
-use Rattle.std.proofs.Common.{◌≡◌, ◌≢◌, ◌⊎◌, inl, inr, ⊎_elim, ℕ, zero, suc, ◌+◌, ◌-◌, ◌*◌, ◌<◌, ◌≤◌, List, [], ◌∷◌, ◌++◌, length, get_or, take, drop, min, refl, sym, ◌∙◌, ap, subst, arith, append_assoc, length-append, length-take, length-drop, take-append-drop, None, Bool, true, false}
+use Rattle.std.proofs.Common.{◌≡◌, ◌≢◌, inl, inr, ⊎_elim, ℕ, zero, suc, ◌+◌, ◌-◌, ◌≤◌, List, [], ◌∷◌, ◌++◌, length, get_or, take, drop, refl, sym, ◌∙◌, ap, subst, arith, append_assoc, length-append, length-drop, Bool}
 use Rattle.std.proofs.lemmas.Bool.{cases_eq}
-use Rattle.std.proofs.lemmas.List.{take_all, take_at, drop_at, drop_all, drop_more, append-nil, take-append-le, get_or-take, take-take}
-use Rattle.ann_disk.specs.Image.{Unsynced, IsImage, EachImage, IsFree, after_write, clean, marked}
-use Rattle.ann_disk.specs.File.{Torn, Cut, BeginsAnImage, overwritten}
+use Rattle.std.proofs.lemmas.List.{take_all, take_at, drop_at, drop_all, append-nil, take-append-le}
+use Rattle.ann_disk.specs.Image.{Unsynced, EachImage, IsFree, after_write, clean, marked}
+use Rattle.ann_disk.specs.File.{Torn, Cut, overwritten}
 use Rattle.ann_preamble.specs.Preamble.{preamble_of}
 use Rattle.ann_preamble.proofs.Agreed.{shut, fronts}
 use Rattle.ann_bytes.specs.LittleEndian.{with_field}

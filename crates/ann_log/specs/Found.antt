@@ -1,6 +1,5 @@
 -- What reading two files finds.
-use Rattle.std.specs.Prelude.{◌≡◌, ℕ, ◌+◌, ◌-◌, ◌*◌, ◌^◌, ◌<◌, ◌≤◌, List, length, drop, Option, Some}
-use Rattle.ann_types.specs.declared.entry.Entry.{Entry}
+use Rattle.std.specs.Prelude.{◌≡◌, ℕ, ◌+◌, ◌-◌, ◌*◌, ◌^◌, ◌<◌, ◌≤◌, List, length, drop, Some}
 use Rattle.ann_preamble.specs.Preamble.{Said, said_by, preamble_of}
 use Rattle.ann_frame.specs.Frames.{HaveComponents}
 use Rattle.ann_frame.specs.Text.{StandFor}

@@ -13,7 +13,7 @@ use Rattle.ann_preamble.specs.declared.choice.Side.{Side}
 use Rattle.ann_preamble.specs.declared.choice.Side.TheVariants.{First, Second}
 use Rattle.ann_frame.specs.Frames.{AreFrames}
 use Rattle.ann_frame.specs.TextOf as framed
-use Rattle.ann_log.specs.Text.{Held, said_of, first_gate, StandsFor}
+use Rattle.ann_log.specs.Text.{Held, first_gate, StandsFor}
 use Rattle.ann_log.specs.declared.files.Files.{Files}
 use Rattle.ann_log.specs.declared.inspect.Inspected.{Inspected}
 

@@ -1,5 +1,5 @@
 -- What making a log leaves.
-use Rattle.std.specs.Prelude.{◌≡◌, ◌⊎◌, ℕ, false, List, [], Result, Ok, Err}
+use Rattle.std.specs.Prelude.{◌≡◌, ◌⊎◌, ℕ, false, List, []}
 use Rattle.ann_types.specs.declared.params.Params.{Params}
 use Rattle.ann_pq.specs.Codebook.{Shown}
 use Rattle.ann_pq.specs.Format.{codebook}
@@ -9,7 +9,7 @@ use Rattle.ann_preamble.specs.declared.base.Base.{Base}
 use Rattle.ann_preamble.specs.declared.choice.Side.TheVariants.{First}
 use Rattle.ann_log.specs.LogView.{LogView}
 use Rattle.ann_log.specs.Pairs.{AreUntouched}
-use Rattle.ann_log.specs.Text.{LogText, no_index, holds, log_text, Held, StandsFor, IsNoIndex}
+use Rattle.ann_log.specs.Text.{holds, log_text, Held, StandsFor, IsNoIndex}
 use Rattle.ann_log.specs.declared.files.Files.{Files}
 use Rattle.ann_log.specs.declared.refused.MakeWhy.{MakeWhy}
 use Rattle.ann_log.specs.declared.refused.MakeWhy.TheVariants.{IndexThere, Disk, Memory}

@@ -1,4 +1,4 @@
-use Rattle.std.proofs.Common.{[], ◌∷◌, inl, inr, subst}
+use Rattle.std.proofs.Common.{inl, inr, subst}
 use Rattle.ann_disk.specs.File.{Torn, BeginsAnImage}
 use Rattle.ann_disk.proofs.Moments.{weaker, joined}
 use Rattle.ann_log.specs.Anew.{IsFrontOrUnmade}

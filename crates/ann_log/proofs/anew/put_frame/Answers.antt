@@ -1,10 +1,7 @@
-use Rattle.std.proofs.Common.{append_assoc, length-append, ◌≡◌, ◌∷◌, ◌++◌, [], ◌+◌, ap, sym, ◌∙◌, subst, arith, length, take}
-use Rattle.std.proofs.lemmas.List.{take_at}
+use Rattle.std.proofs.Common.{append_assoc, length-append, ◌∷◌, ◌++◌, [], ◌+◌, ap, sym, ◌∙◌, arith, take}
 use Rattle.ann_disk.specs.File.{overwritten}
-use Rattle.ann_entry.specs.EntryBytes.{entries_bytes}
 use Rattle.ann_frame.specs.Frames.{frame_bytes}
 use Rattle.ann_frame.proofs.Filling.{sizes_most}
-use Rattle.ann_log.specs.Anew.{StaysShut}
 use Rattle.ann_log.proofs.Writing.{shut_by, at_front, frame_put}
 use Rattle.ann_log.proofs.anew.put_frame.Goals as goal
 

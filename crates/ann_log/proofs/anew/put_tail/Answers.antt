@@ -1,5 +1,5 @@
-use Rattle.std.proofs.Common.{◌≡◌, ◌-◌, ◌≤◌, ◌<◌, arith, length, take, drop, min, refl, ◌∙◌, ◌+◌, length-take, length-drop}
-use Rattle.ann_entry.specs.EntryBytes.{entries_bytes, HasComponents}
+use Rattle.std.proofs.Common.{◌≡◌, ◌-◌, ◌≤◌, arith, length, take, drop, refl, ◌∙◌, ◌+◌, length-take, length-drop}
+use Rattle.ann_entry.specs.EntryBytes.{HasComponents}
 use Rattle.ann_frame.specs.Frames.{IsFrame}
 use Rattle.ann_frame.proofs.Filling.{sizes_most}
 use Rattle.ann_log.proofs.Tails.{each_take, each_drop, tail_start, tail_ends, tail_more, ends_more}

@@ -1,4 +1,4 @@
-use Rattle.std.proofs.Common.{◌≡◌, ◌+◌, ◌-◌, ◌++◌, ◌∷◌, [], length, take, ap, ◌∙◌, subst, sym}
+use Rattle.std.proofs.Common.{◌≡◌, ◌-◌, ◌++◌, ◌∷◌, [], length, take, ◌∙◌, subst, sym}
 use Rattle.ann_log.specs.Anew.{IsUnmade}
 use Rattle.ann_disk.proofs.Moments.{started, after_sync}
 use Rattle.ann_log.proofs.Writing.{first_shut, shut_unmade, head_last, head_put}

@@ -1,7 +1,7 @@
 use Rattle.std.proofs.Common.{◌≡◌, subst}
 use Rattle.ann_disk.proofs.Moments.{weaker}
 use Rattle.ann_preamble.specs.Written.{preamble_bytes, IsReadAgain}
-use Rattle.ann_log.specs.Anew.{HoldsTail, HoldsText, IsFrontOrWhole, IsFrontOrText, IsWritten, held_in, opened}
+use Rattle.ann_log.specs.Anew.{HoldsText, IsFrontOrWhole, IsFrontOrText, IsWritten, held_in}
 use Rattle.ann_log.specs.Text.{said_in}
 use Rattle.ann_log.proofs.Results.{if_ok, on_ok}
 use Rattle.ann_log.proofs.Texts.{is_head, written_over, book_again, text_held, is_written, whole_text, front_text}

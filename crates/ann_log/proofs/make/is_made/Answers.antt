@@ -1,5 +1,4 @@
-use Rattle.std.proofs.Common.{◌∙◌, ap}
-use Rattle.ann_preamble.specs.Preamble.{preamble_of}
+use Rattle.std.proofs.Common.{◌∙◌}
 use Rattle.ann_preamble.proofs.Within.{is_found}
 use Rattle.ann_log.proofs.make.is_made.Goals as goal
 

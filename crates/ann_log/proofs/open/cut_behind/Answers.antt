@@ -1,4 +1,4 @@
-use Rattle.std.proofs.Common.{◌≡◌, ◌+◌, ◌≤◌, ◌∙◌, refl, sym, ap, subst, arith, length}
+use Rattle.std.proofs.Common.{◌≡◌, ◌+◌, ◌∙◌, sym, ap, arith, length}
 use Rattle.std.proofs.lemmas.List.{take_all}
 use Rattle.ann_disk.specs.File.{Cut}
 use Rattle.ann_log.proofs.Pairs.{resting}

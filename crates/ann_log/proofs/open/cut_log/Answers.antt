@@ -1,4 +1,4 @@
-use Rattle.std.proofs.Common.{◌≡◌, ◌+◌, List, ℕ, refl, sym, subst}
+use Rattle.std.proofs.Common.{◌≡◌, ◌+◌, List, ℕ, sym, subst}
 use Rattle.ann_disk.specs.File.{Cut}
 use Rattle.ann_preamble.specs.declared.choice.Side.TheVariants.{First, Second}
 use Rattle.ann_log.specs.Pairs.{LeavePairs, MayBeCut}

@@ -1,5 +1,4 @@
 use Rattle.std.proofs.Common.{◌≡◌, ◌+◌, ◌∙◌, List, ℕ, take, ap, ap₂}
-use Rattle.ann_disk.specs.Image.{clean}
 use Rattle.ann_preamble.specs.Preamble.{said_by, preamble_of}
 use Rattle.ann_log.specs.LogView.{on_side, off_side, choice_of}
 use Rattle.ann_log.specs.Pairs.{ReadAsBefore, AreImages, MayBeCut}

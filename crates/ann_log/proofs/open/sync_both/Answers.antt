@@ -1,4 +1,3 @@
-use Rattle.std.proofs.Common.{◌≡◌}
 use Rattle.ann_disk.specs.Image.{IsImage}
 use Rattle.ann_log.specs.Pairs.{AreImages}
 use Rattle.ann_log.proofs.Pairs.{idle, by_sync, at_once}

@@ -1,4 +1,4 @@
-use Rattle.std.proofs.Common.{◌≡◌, ◌+◌, ◌-◌, ◌≤◌, ◌<◌, ◌^◌, ℕ, List, Option, Some, length, drop, sym, ap, subst, ◌∙◌, arith}
+use Rattle.std.proofs.Common.{◌≡◌, ◌-◌, ℕ, Some, drop, sym, ap, subst, ◌∙◌, arith}
 use Rattle.ann_preamble.specs.Preamble.{preamble_of, said_by, said_by_found}
 use Rattle.ann_frame.specs.Text.{StandFor}
 use Rattle.ann_frame.specs.Found.{AreRefused}

@@ -1,5 +1,4 @@
-use Rattle.std.proofs.Common.{◌≡◌, ◌+◌, ◌<◌, ◌≤◌, ◌^◌, ◌++◌, ◌∷◌, [], List, ℕ, length, take, refl, sym, ◌∙◌, ap, subst, arith, false, length-append}
-use Rattle.ann_types.specs.declared.entry.Entry.{Entry}
+use Rattle.std.proofs.Common.{◌≡◌, ◌+◌, ◌<◌, ◌^◌, ◌++◌, ◌∷◌, [], List, ℕ, length, take, refl, sym, ◌∙◌, ap, subst, arith, false, length-append}
 use Rattle.ann_disk.specs.File.{LeavesOnly}
 use Rattle.ann_frame.specs.Frames.{IsFrame, frame_bytes}
 use Rattle.ann_log.specs.LogView.{IsSound, IsBeforeOrAfter, extended, counted, held_of, files_in, files_of}

@@ -1,7 +1,7 @@
-use Rattle.std.proofs.Common.{◌≡◌, ◌∙◌, refl, ap, subst, [], List, ℕ, false}
+use Rattle.std.proofs.Common.{◌≡◌, ◌∙◌, ap, subst, false}
 use Rattle.ann_disk.specs.File.{Cut}
 use Rattle.ann_log.specs.LogView.{files_of, files_in, held_of, counted}
-use Rattle.ann_log.specs.Pairs.{LeavePairs, EachPair}
+use Rattle.ann_log.specs.Pairs.{LeavePairs}
 use Rattle.ann_log.specs.Text.{Held, StandsFor, said_in}
 use Rattle.ann_log.proofs.Pairs.{in_side, resting}
 use Rattle.ann_log.proofs.Turning.{cut_rest, stands_cut, stands_at_rest, each_on_side}

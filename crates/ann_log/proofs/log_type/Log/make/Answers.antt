@@ -1,4 +1,4 @@
-use Rattle.std.proofs.Common.{◌≡◌, inl, inr, List, ℕ, refl}
+use Rattle.std.proofs.Common.{inl, inr, List, ℕ, refl}
 use Rattle.ann_disk.specs.Image.{Unsynced}
 use Rattle.ann_preamble.specs.Preamble.{no_base}
 use Rattle.ann_types.specs.declared.params.Params.{Params}

@@ -1,5 +1,4 @@
-use Rattle.std.proofs.Common.{◌≡◌, ◌∙◌, inr, ap, subst, sym}
-use Rattle.ann_log.specs.LogView.{files_of}
+use Rattle.std.proofs.Common.{inr, ap, subst, sym}
 use Rattle.ann_log.specs.Making.{base_alone, held_with, IsNothingOr, IsNoIndexOr}
 use Rattle.ann_log.specs.Pairs.{LeavePairs}
 use Rattle.ann_log.proofs.Beginnings.{while_read, after_read}

@@ -1,4 +1,4 @@
-use Rattle.std.proofs.Common.{inr, subst, ◌∙◌, ap}
+use Rattle.std.proofs.Common.{inr, subst}
 use Rattle.ann_log.specs.LogView.{files_of, held_of}
 use Rattle.ann_log.specs.Renewed.{renewed, IsOldOrNew}
 use Rattle.ann_log.specs.Text.{StandsFor}

@@ -1,4 +1,4 @@
-use Rattle.std.proofs.Common.{◌≡◌, ap, sym, subst, arith, length}
+use Rattle.std.proofs.Common.{ap, sym, subst, arith, length}
 use Rattle.ann_preamble.specs.Preamble.{said_by}
 use Rattle.ann_log.specs.Found.{held_in}
 use Rattle.ann_log.specs.LogView.{files_in}

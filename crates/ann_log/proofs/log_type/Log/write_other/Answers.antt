@@ -1,4 +1,4 @@
-use Rattle.std.proofs.Common.{◌≡◌, ◌+◌, ◌∙◌, refl, sym, ap, subst, arith, List, ℕ, false, length}
+use Rattle.std.proofs.Common.{◌≡◌, ◌+◌, ◌∙◌, sym, ap, subst, arith, List, ℕ, false, length}
 use Rattle.ann_types.specs.declared.entry.Entry.{Entry}
 use Rattle.ann_log.specs.Anew.{IsFrontOrText, IsWritten, held_in}
 use Rattle.ann_log.specs.LogView.{files_of, files_in, held_of, counted}

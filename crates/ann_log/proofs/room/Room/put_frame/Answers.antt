@@ -1,4 +1,4 @@
-use Rattle.std.proofs.Common.{◌≡◌, ◌+◌, ◌++◌, ◌∷◌, [], ℕ, List, length, take, ap, sym, ◌∙◌, arith, length-append}
+use Rattle.std.proofs.Common.{◌≡◌, ◌++◌, ◌∷◌, [], ℕ, List, length, take, ap, ◌∙◌, arith, length-append}
 use Rattle.ann_bytes.specs.LittleEndian.{with_field}
 use Rattle.ann_frame.specs.Frames.{frame_bytes}
 use Rattle.ann_frame.proofs.Filling.{sizes_most}
