@@ -6,7 +6,7 @@ use Rattle.std.proofs.lemmas.List.{append-nil, take_at, take_all}
 use Rattle.ann_types.specs.declared.entry.Entry.{Entry}
 use Rattle.ann_frame.specs.Frames.{AreFrames, IsFrame, frame_bytes, frames_bytes, entries_of}
 use Rattle.ann_frame.proofs.Each.{all_append}
-use Rattle.ann_log.specs.Anew.{AreTail, HoldsTail, IsHead, opened, IsUnmadeOr, IsUnmadeOrWhole}
+use Rattle.ann_log.specs.Anew.{AreFull, AreTail, HoldsTail, IsHead, opened, IsUnmadeOr, IsUnmadeOrWhole}
 
 -- ---- parts of a list
 
@@ -36,41 +36,59 @@ module _ {d : ℕ} {bytes : List ℕ} {entries : List Entry} (is : AreTail d byt
   pub are_frames : AreFrames d bytes entries
   are_frames = record { frames = is.frames; each = is.each; spelled = is.spelled; joined = is.joined }
 
-  tail_grows : (new : List Entry) → IsFrame d new → length new ≤ 64 → AreTail d (bytes ++ 1 ∷ frame_bytes new) (entries ++ new)
-  tail_grows new frame few = record {
-    frames = is.frames ++ new ∷ [];
-    each = all_append (IsFrame d) is.frames (new ∷ []) is.each (frame, tt);
-    few = all_append (λ f. length f ≤ 64) is.frames (new ∷ []) is.few (few, tt);
-    spelled =
-        ap (λ t. t ++ 1 ∷ frame_bytes new) is.spelled
-        ∙ ap (λ t. frames_bytes is.frames ++ t) (sym (append-nil (1 ∷ frame_bytes new)))
-        ∙ sym (flat_map-append (λ f. 1 ∷ frame_bytes f) is.frames (new ∷ []));
-    joined =
-        ap (λ t. t ++ new) is.joined
-        ∙ ap (λ t. entries_of is.frames ++ t) (sym (append-nil new))
-        ∙ sym (flat_map-append (λ f. f) is.frames (new ∷ []));
-  }
+-- 64 entries in each frame
+abbrev pub AllFull : List (List Entry) → Type 0
+AllFull frames = AllByRecursion (λ frame. length frame ≡ 64) frames
+
+full_grows : (frames : List (List Entry)) (new : List Entry) → AllFull frames → length new ≤ 64 → AreFull (frames ++ new ∷ [])
+full_grows [] new full few = few
+full_grows (frame ∷ []) new full few = (full.0, few)
+full_grows (frame ∷ next ∷ frames) new full few = (full.0, full_grows (next ∷ frames) new full.1 few)
+
+-- how far a tail was written; what is left comes behind full frames
+pub record TailSoFar (tells : Type 0) (d gate : ℕ) (old : List ℕ) (tail : List Entry) (start last : ℕ) (seen : List ℕ) : Type 0 where
+  pub holds : HoldsTail tells d gate old (take start tail) last seen
+  pub full : start < length tail → AllFull holds.are.frames
 
 module _ (tells : Type 0) (d gate : ℕ) (old : List ℕ) where
-  pub tail_start : gate + 1 < 2 ^ 64 → (tells → old ≡ take gate old ++ 0 ∷ []) → HoldsTail tells d gate old [] gate old
-  tail_start fits last = record {
-    frames = [];
-    are = record { frames = []; each = tt; few = tt; spelled = refl; joined = refl };
-    place = omega arith;
-    end = fits;
-    file = λ told. last told ∙ ap (λ l. l ++ 0 ∷ []) (sym (append-nil (take gate old)));
+  pub tail_start : (tail : List Entry) → gate + 1 < 2 ^ 64 → (tells → old ≡ take gate old ++ 0 ∷ []) → TailSoFar tells d gate old tail 0 gate old
+  tail_start tail fits last = record {
+    holds = record {
+      frames = [];
+      are = record { frames = []; each = tt; full = tt; spelled = refl; joined = refl };
+      place = omega arith;
+      end = fits;
+      file = λ told. last told ∙ ap (λ l. l ++ 0 ∷ []) (sym (append-nil (take gate old)));
+    };
+    full = λ more. tt;
   }
+
+  pub tail_end : (tail : List Entry) (start last : ℕ) (seen : List ℕ) → length tail ≤ start → TailSoFar tells d gate old tail start last seen → HoldsTail tells d gate old tail last seen
+  tail_end tail start last seen all is = subst (λ e. HoldsTail tells d gate old e last seen) (take_all start tail all) is.holds
 
   pub tail_ends : old ≡ take gate old ++ 0 ∷ [] → length old ≡ gate + 1
   tail_ends is = let long = ap length is in omega (arith, long, length-append (take gate old) (0 ∷ []), length-take gate old)
 
-  module _ (tail : List Entry) (start end count last next : ℕ) (ends_at : end ≡ start + count) (seen seen' : List ℕ) (holds : HoldsTail tells d gate old (take start tail) last seen) (inside : tells → gate ≤ length old) where
+  module _ (tail : List Entry) (start end count last next : ℕ) (ends_at : end ≡ start + count) (seen seen' : List ℕ) (sofar : TailSoFar tells d gate old tail start last seen) (inside : tells → gate ≤ length old) where
     abbrev part : List Entry
     part = take count (drop start tail)
 
-    more_frames : (first : AreTail d holds.frames (take start tail)) → IsFrame d part → length part ≤ 64 → AreTail d (holds.frames ++ 1 ∷ frame_bytes part) (take end tail)
-    more_frames first frame few = subst (λ e. AreTail d (holds.frames ++ 1 ∷ frame_bytes part) e) (take_on start count tail ∙ ap (λ (k : ℕ). take k tail) (sym ends_at))
-        (tail_grows first part frame few)
+    abbrev holds : HoldsTail tells d gate old (take start tail) last seen
+    holds = sofar.holds
+
+    joined_more : take end tail ≡ entries_of (holds.are.frames ++ part ∷ [])
+    joined_more =
+        ap (λ (k : ℕ). take k tail) ends_at
+        ∙ sym (take_on start count tail)
+        ∙ ap (λ t. t ++ part) holds.are.joined
+        ∙ ap (λ t. entries_of holds.are.frames ++ t) (sym (append-nil part))
+        ∙ sym (flat_map-append (λ f. f) holds.are.frames (part ∷ []))
+
+    spelled_more : holds.frames ++ 1 ∷ frame_bytes part ≡ frames_bytes (holds.are.frames ++ part ∷ [])
+    spelled_more =
+        ap (λ t. t ++ 1 ∷ frame_bytes part) holds.are.spelled
+        ∙ ap (λ t. frames_bytes holds.are.frames ++ t) (sym (append-nil (1 ∷ frame_bytes part)))
+        ∙ sym (flat_map-append (λ f. 1 ∷ frame_bytes f) holds.are.frames (part ∷ []))
 
     seen_more : tells → seen' ≡ take last seen ++ 1 ∷ frame_bytes part ++ 0 ∷ [] → seen' ≡ take gate old ++ (holds.frames ++ 1 ∷ frame_bytes part) ++ 0 ∷ []
     seen_more told is =
@@ -82,13 +100,22 @@ module _ (tells : Type 0) (d gate : ℕ) (old : List ℕ) where
         ∙ ap (λ l. l ++ 1 ∷ frame_bytes part ++ 0 ∷ []) (take_at front (0 ∷ []) last long)
         ∙ ap (λ l. l ++ 0 ∷ []) (append_assoc (take gate old) holds.frames (1 ∷ frame_bytes part))
 
-    pub tail_more : IsFrame d part → length part ≤ 64 → next ≡ last + (1 + length (frame_bytes part)) → next + 1 < 2 ^ 64 → (tells → seen' ≡ take last seen ++ 1 ∷ frame_bytes part ++ 0 ∷ []) → HoldsTail tells d gate old (take end tail) next seen'
-    tail_more frame few place end file = record {
-      frames = holds.frames ++ 1 ∷ frame_bytes part;
-      are = more_frames holds.are frame few;
-      place = let before = holds.place in omega (arith, place, before, length-append holds.frames (1 ∷ frame_bytes part));
-      end = end;
-      file = λ told. seen_more told (file told);
+    pub tail_more : IsFrame d part → length part ≤ 64 → start < length tail → (end < length tail → length part ≡ 64) → next ≡ last + (1 + length (frame_bytes part)) → next + 1 < 2 ^ 64 → (tells → seen' ≡ take last seen ++ 1 ∷ frame_bytes part ++ 0 ∷ []) → TailSoFar tells d gate old tail end next seen'
+    tail_more frame few here exact place fits file = record {
+      holds = record {
+        frames = holds.frames ++ 1 ∷ frame_bytes part;
+        are = record {
+          frames = holds.are.frames ++ part ∷ [];
+          each = all_append (IsFrame d) holds.are.frames (part ∷ []) holds.are.each (frame, tt);
+          full = full_grows holds.are.frames part (sofar.full here) few;
+          spelled = spelled_more;
+          joined = joined_more;
+        };
+        place = let before = holds.place in omega (arith, place, before, length-append holds.frames (1 ∷ frame_bytes part));
+        end = fits;
+        file = λ told. seen_more told (file told);
+      };
+      full = λ more. all_append (λ f. length f ≡ 64) holds.are.frames (part ∷ []) (sofar.full here) (exact more, tt);
     }
 
     pub ends_more : next ≡ last + (1 + length (frame_bytes part)) → (tells → length seen ≡ last + 1) → (tells → seen' ≡ take last seen ++ 1 ∷ frame_bytes part ++ 0 ∷ []) → tells → length seen' ≡ next + 1

@@ -22,11 +22,17 @@ pub record StaysShut (u : Unsynced) : Type 0 where
   pub shut : slice_index_or u.kept 0 0 ≡ 0
   pub free : IsFree u.covered 0
 
--- the bytes are those of frames of at most 64 entries, which have these entries
+-- each frame but the last has 64 entries, and the last has no more
+abbrev pub AreFull : List (List Entry) → Type 0
+AreFull [] = Unit {0}
+AreFull (frame ∷ []) = length frame ≤ 64
+AreFull (frame ∷ next ∷ frames) = (length frame ≡ 64) × AreFull (next ∷ frames)
+
+-- the bytes are those of full frames, which have these entries
 pub record AreTail (d : ℕ) (bytes : List ℕ) (entries : List Entry) : Type 0 where
   pub frames : List (List Entry)
   pub each : AllByRecursion (IsFrame d) frames
-  pub few : AllByRecursion (λ frame. length frame ≤ 64) frames
+  pub full : AreFull frames
   pub spelled : bytes ≡ frames_bytes frames
   pub joined : entries ≡ entries_of frames
 

@@ -81,8 +81,8 @@ fn put_frame<F: LogFile>(
     Ok(gate + size as u64)
 }
 
-// Writes a tail behind the file's last byte, a gate 0, in frames of at most 64 entries. Nothing is synced. Gives the
-// place of the last gate.
+// Writes a tail behind the file's last byte, a gate 0, in frames of 64 entries, the last one shorter. Nothing is synced.
+// Gives the place of the last gate.
 fn put_tail<F: LogFile>(
     file: &mut F,
     gate: u64,
@@ -160,8 +160,8 @@ fn fill<F: LogFile>(
     Ok(gate)
 }
 
-/// Writes a file anew: a preamble, and a tail behind it in frames of at most 64 entries. `head` is the preamble with a
-/// closed made byte and a gate 0. Takes no memory. Gives the place of the last gate.
+/// Writes a file anew: a preamble, and a tail behind it in frames of 64 entries, the last one shorter. `head` is the
+/// preamble with a closed made byte and a gate 0. Takes no memory. Gives the place of the last gate.
 pub(crate) fn write_anew<F: LogFile>(
     file: &mut F,
     head: &[u8],

@@ -2,13 +2,13 @@ use Rattle.std.proofs.Common.{◌≡◌, ◌-◌, ◌≤◌, arith, length, take
 use Rattle.ann_entry.specs.EntryBytes.{HasComponents}
 use Rattle.ann_frame.specs.Frames.{IsFrame}
 use Rattle.ann_frame.proofs.Filling.{sizes_most}
-use Rattle.ann_log.proofs.Tails.{each_take, each_drop, tail_start, tail_ends, tail_more, ends_more}
+use Rattle.ann_log.proofs.Tails.{each_take, each_drop, tail_start, tail_ends, tail_end, tail_more, ends_more}
 use Rattle.ann_log.proofs.anew.put_tail.Goals as goal
 
 pub loop-start-init : goal.loop-start-init
 loop-start-init g c = record {
   within = omega arith;
-  holds = tail_start g.F.LogFile.tells c.args.d c.args.gate (g.F.LogFile.seen c.args.file.now) c.requires.behind.1 c.requires.last;
+  sofar = tail_start g.F.LogFile.tells c.args.d c.args.gate (g.F.LogFile.seen c.args.file.now) c.args.tail.now c.requires.behind.1 c.requires.last;
   ends = λ told. tail_ends g.F.LogFile.tells c.args.d c.args.gate (g.F.LogFile.seen c.args.file.now) (c.requires.last told);
   shut = c.requires.shut;
   past = λ told. refl;
@@ -36,9 +36,13 @@ loop-start-preserved g c =
     } in
     record {
       within = omega arith;
-      holds = tail_more D.tells c.args.d c.args.gate (D.seen c.args.file.now) tail start end count c.loop-start.last c.in_ok-last.last is_end (D.seen c.loop-start.file) (D.seen c.put_frame.new.file) i.holds inside frame few c.in_ok-last.ensures.place c.in_ok-last.ensures.end c.in_ok-last.ensures.file;
-      ends = ends_more D.tells c.args.d c.args.gate (D.seen c.args.file.now) tail start end count c.loop-start.last c.in_ok-last.last is_end (D.seen c.loop-start.file) (D.seen c.put_frame.new.file) i.holds inside c.in_ok-last.ensures.place i.ends c.in_ok-last.ensures.file;
+      sofar = tail_more D.tells c.args.d c.args.gate (D.seen c.args.file.now) tail start end count c.loop-start.last c.in_ok-last.last is_end (D.seen c.loop-start.file) (D.seen c.put_frame.new.file) i.sofar inside frame few (omega arith) (λ more. omega (arith, more, long)) c.in_ok-last.ensures.place c.in_ok-last.ensures.end c.in_ok-last.ensures.file;
+      ends = ends_more D.tells c.args.d c.args.gate (D.seen c.args.file.now) tail start end count c.loop-start.last c.in_ok-last.last is_end (D.seen c.loop-start.file) (D.seen c.put_frame.new.file) i.sofar inside c.in_ok-last.ensures.place i.ends c.in_ok-last.ensures.file;
       shut = c.put_frame.ensures.shut;
       past = λ told. c.put_frame.ensures.past told ∙ i.past told;
       later = let cause = c.put_frame.ensures.cause in omega (arith, cause.later);
     }
+
+pub returns-clause-held : goal.returns-clause-held
+returns-clause-held g c =
+    tail_end g.F.LogFile.tells c.args.d c.args.gate (g.F.LogFile.seen c.args.file.now) c.args.tail.now c.loop-start.start c.loop-start.last (g.F.LogFile.seen c.loop-start.file) (omega arith) c.loop-start.invariant.sofar

@@ -1,11 +1,12 @@
-use Rattle.std.proofs.Common.{◌≡◌, ◌+◌, ◌-◌, ◌≤◌, length, take}
-use Rattle.ann_log.specs.Anew.{StaysShut, HoldsTail}
+use Rattle.std.proofs.Common.{◌≡◌, ◌+◌, ◌-◌, ◌≤◌, length}
+use Rattle.ann_log.specs.Anew.{StaysShut}
+use Rattle.ann_log.proofs.Tails.{TailSoFar}
 use Rattle.ann_log.proofs.anew.put_tail.Given as goal
 
 abbrev pub invariant-loop-start : goal.invariant-loop-start
 invariant-loop-start g l = record {
   within : l.start ≤ length l.tail;
-  holds : HoldsTail g.F.LogFile.tells l.d l.gate (g.F.LogFile.seen l.initial.file) (take l.start l.tail) l.last (g.F.LogFile.seen l.file);
+  sofar : TailSoFar g.F.LogFile.tells l.d l.gate (g.F.LogFile.seen l.initial.file) l.tail l.start l.last (g.F.LogFile.seen l.file);
   ends : g.F.LogFile.tells → length (g.F.LogFile.seen l.file) ≡ l.last + 1;
   shut : g.F.LogFile.tells → StaysShut (g.F.LogFile.unsynced l.file);
   past : g.F.LogFile.tells → g.F.LogFile.past l.file ≡ g.F.LogFile.past l.initial.file;
