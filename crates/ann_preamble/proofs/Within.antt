@@ -1,10 +1,10 @@
 -- A preamble stands within the first 262218 bytes: vectors have at most 1024 components.
-use Rattle.std.proofs.Common.{◌≡◌, ◌⊎◌, inl, inr, ⊎_elim, ℕ, ◌+◌, ◌*◌, ◌<◌, ◌≤◌, Bool, true, false, ◌==◌, ◌&&◌, nat_le, nat_lt, if◌then◌else◌, List, Option, Some, None, length, take, min, refl, sym, ap, subst, ◌∙◌, arith, length-take}
+use Rattle.std.proofs.Common.{◌≡◌, ⊎_elim, ℕ, ◌<◌, ◌≤◌, Bool, true, false, ◌==◌, ◌&&◌, nat_lt, if◌then◌else◌, List, Option, Some, None, length, take, refl, sym, ap, subst, ◌∙◌, arith, length-take}
 use Rattle.std.specs.Option.{is_none, is_some, unwrap_or}
 use Rattle.std.proofs.lemmas.Bool.{leb-true}
 use Rattle.std.proofs.lemmas.List.{take-take}
 use Rattle.ann_pq.specs.Format.{fault}
-use Rattle.ann_preamble.specs.Preamble.{Said, are_limits, are_sound, is_whole, said, book_bytes, book_place, gate_place, with_fields, fields_in, preamble_of, said_by_found}
+use Rattle.ann_preamble.specs.Preamble.{Said, are_limits, are_sound, is_whole, said, book_bytes, gate_place, with_fields, fields_in, preamble_of, said_by_found}
 use Rattle.ann_preamble.specs.declared.preamble.Preamble.{Preamble}
 use Rattle.ann_preamble.specs.Base.{is_base}
 use Rattle.ann_preamble.specs.declared.fields.Fields.{Fields}
