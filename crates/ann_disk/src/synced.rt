@@ -38,6 +38,8 @@ pub fn cut_any<F: LogFile>(file: &mut F, to: u64) -> Result<(), Failed>
     requires place { F.tells → to ≤ length (F.seen file.old) }
     ensures written { F.tells → OnOk result (F.seen file.new ≡ take to (F.seen file.old)) }
     ensures rest { F.tells → OnOk result (F.unsynced file.new ≡ clean (F.seen file.new)) }
+    // Whatever the answer, a read gives the front of what it gave.
+    ensures torn { F.tells → Cut to (F.seen file.old) (F.seen file.new) }
     ensures during { F.tells → LeavesOnly F.past F.unsynced file.old file.new (BeginsAnImage (F.unsynced file.old)) }
     ensures cause { HasCause (F.faults file.old) (F.faults file.new) result }
 {

@@ -3,3 +3,4 @@ pub mod Again
 pub mod Cut
 pub mod Grammar
 pub mod Joined
+pub mod Within

@@ -1,0 +1,17 @@
+pub mod AtRest
+pub mod Beginnings
+pub mod Behind
+pub mod Buffers
+pub mod Extending
+pub mod Fronts
+pub mod Gates
+pub mod Nothing
+pub mod Opening
+pub mod Pairs
+pub mod Results
+pub mod Sizes
+pub mod Standing
+pub mod Tails
+pub mod Texts
+pub mod Turning
+pub mod Writing

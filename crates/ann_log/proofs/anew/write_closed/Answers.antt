@@ -1,0 +1,43 @@
+use Rattle.std.proofs.Common.{◌≡◌, ◌-◌, ◌++◌, ◌∷◌, [], length, take, ◌∙◌, subst, sym}
+use Rattle.ann_log.specs.Anew.{IsUnmade}
+use Rattle.ann_disk.proofs.Moments.{started, after_sync}
+use Rattle.ann_log.proofs.Writing.{first_shut, shut_unmade, head_last, head_put}
+use Rattle.ann_log.proofs.anew.write_closed.Goals as goal
+
+pub put_tail-requires-clause-last : goal.put_tail-requires-clause-last
+put_tail-requires-clause-last g c told =
+    let head = c.args.head.now in
+    let is = head_put head (g.F.LogFile.seen c.args.file.now) (g.F.LogFile.seen c.write_at.new.self) c.requires.head (c.requires.cleared told) (c.in_ok-write_at.ensures.written told) in
+    subst (λ l. l ≡ take (length head - 1) l ++ 0 ∷ []) (sym is) (head_last head c.requires.head)
+
+pub returns-in_err-write_at-clause-during : goal.returns-in_err-write_at-clause-during
+returns-in_err-write_at-clause-during g c told =
+    let D = g.F.LogFile in
+    let old = c.args.file.now in
+    started D.past D.unsynced old c.write_at.new.self IsUnmade (c.write_at.ensures.past told)
+    (shut_unmade (D.unsynced c.write_at.new.self) (first_shut _ (D.unsynced old) (D.unsynced c.write_at.new.self) (D.seen old) (c.write_at.ensures.images told) (c.requires.rest told) (c.requires.cleared told)))
+
+pub returns-in_err-gate-clause-during : goal.returns-in_err-gate-clause-during
+returns-in_err-gate-clause-during g c told =
+    let D = g.F.LogFile in
+    let mid = c.put_tail.new.file in
+    started D.past D.unsynced c.args.file.now mid IsUnmade (c.put_tail.ensures.past told ∙ c.write_at.ensures.past told)
+    (shut_unmade (D.unsynced mid) (c.put_tail.ensures.shut told))
+
+pub returns-in_err-sync-clause-during : goal.returns-in_err-sync-clause-during
+returns-in_err-sync-clause-during g c told =
+    let D = g.F.LogFile in
+    let mid = c.put_tail.new.file in
+    let sofar = started D.past D.unsynced c.args.file.now mid IsUnmade (c.put_tail.ensures.past told ∙ c.write_at.ensures.past told)
+    (shut_unmade (D.unsynced mid) (c.put_tail.ensures.shut told)) in
+    after_sync D.past D.unsynced c.args.file.now mid c.sync.new.self IsUnmade (D.seen mid) c.sync.result sofar
+    (c.sync.ensures.images told) (c.sync.ensures.past told) (c.sync.ensures.failed told) (sofar.now (D.seen mid) (g.met.F.LogFile.reads_an_image mid told))
+
+pub returns-clause-during : goal.returns-clause-during
+returns-clause-during g c told =
+    let D = g.F.LogFile in
+    let mid = c.put_tail.new.file in
+    let sofar = started D.past D.unsynced c.args.file.now mid IsUnmade (c.put_tail.ensures.past told ∙ c.write_at.ensures.past told)
+    (shut_unmade (D.unsynced mid) (c.put_tail.ensures.shut told)) in
+    after_sync D.past D.unsynced c.args.file.now mid c.sync.new.self IsUnmade (D.seen mid) c.sync.result sofar
+    (c.sync.ensures.images told) (c.sync.ensures.past told) (c.sync.ensures.failed told) (sofar.now (D.seen mid) (g.met.F.LogFile.reads_an_image mid told))

@@ -1,0 +1,9 @@
+pub mod Anew
+pub mod Causes
+pub mod Found
+pub mod LogView
+pub mod Making
+pub mod Pairs
+pub mod Renewed
+pub mod Storing
+pub mod Text
