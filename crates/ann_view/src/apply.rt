@@ -87,8 +87,7 @@ impl<S: Sealed> View<S> {
         ensures applied { OnOk result (self.new ≡ with_point_more self.old (inserted self.old.params (deleted self.old.memory (gone ∷ [])) self.old.next tag vector.now)) }
         ensures refused { OnErr result (self.new ≡ self.old) }
     {
-        self.temp
-            .replace(gone, self.next, tag, vector.bytes())?;
+        self.temp.replace(gone, self.next, tag, vector.bytes())?;
         self.next += 1;
         self.at += 1;
         Ok(())

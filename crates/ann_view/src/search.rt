@@ -181,7 +181,15 @@ impl<S: Sealed> View<S> {
         ensures later { E.faults eye.old ≤ E.faults eye.new }
     {
         let params = self.temp.params();
-        add_long_term(&self.segment, &self.book, params, self.temp.dead(), desk, eye, ask)?;
+        add_long_term(
+            &self.segment,
+            &self.book,
+            params,
+            self.temp.dead(),
+            desk,
+            eye,
+            ask,
+        )?;
         Ok(Found { at: self.at })
     }
 

@@ -137,7 +137,10 @@ fn view_of(alloc: Global, params: &Params, count: u8) -> Result<View<MemorySeal>
 
 // A merge of both points of a view of two, with a delete of the first while it is open. Before its end it has this many
 // frozen graphs, and deleted points or none.
-fn merge(view: &mut View<MemorySeal>, segment: Arc<Segment<MemorySeal>>) -> Result<(usize, bool), Fail>
+fn merge(
+    view: &mut View<MemorySeal>,
+    segment: Arc<Segment<MemorySeal>>,
+) -> Result<(usize, bool), Fail>
     requires going { view.old.closed ≡ false }
     requires begun { view.old.memory.begun ≡ None }
     requires room { view.old.at ≤ 1000 }
@@ -190,34 +193,40 @@ fn hits(alloc: Global, desk: &Desk) -> Result<Vec<(u64, u32)>, AllocError> {
     hits.collect(alloc)
 }
 
-// The number of entries and the hits of a search.
-fn searched(
-    alloc: Global,
-    params: &Params,
+// Searches a copy of a view by a pin.
+fn search_pinned(
     view: &View<MemorySeal>,
+    desk: &mut Desk,
+    eye: &mut MemoryEye,
     ask: &Ask,
-) -> Result<(u64, Vec<(u64, u32)>), Fail> {
-    let mut desk = Desk::new(alloc, params)?;
-    let mut eye = MemoryEye::new(alloc, &[])?;
-    let found = view.search(&mut desk, &mut eye, ask)?;
-    Ok((found.at, hits(alloc, &desk)?))
-}
-
-// The same by a pin of a copy.
-fn pinned(
-    alloc: Global,
-    params: &Params,
-    view: &View<MemorySeal>,
-    ask: &Ask,
-) -> Result<(u64, Vec<(u64, u32)>), Fail> {
-    let mut desk = Desk::new(alloc, params)?;
-    let mut eye = MemoryEye::new(alloc, &[])?;
+) -> Result<u64, Fail> {
     let copy = view.copy()?;
     copy.known();
-    copy.near(&mut desk, ask)?;
-    let pin = copy.pin()?;
-    let found = pin.disk(&mut desk, &mut eye, ask)?;
-    Ok((found.at, hits(alloc, &desk)?))
+    copy.near(desk, ask)?;
+    let found = copy.pin()?.disk(desk, eye, ask)?;
+    Ok(found.at)
+}
+
+// Whether a search finds this much from so many entries, and whether the same by a pin does.
+fn finds(
+    alloc: Global,
+    view: &View<MemorySeal>,
+    ask: &Ask,
+    at: u64,
+    wanted: &[(u64, u32)],
+) -> Result<(bool, bool), Fail> {
+    let mut desk = Desk::new(
+        alloc,
+        &Params::new(1, 2, 10, 1, 1, 1, 1, 1).ok_or("no parameters")?,
+    )?;
+    let mut eye = MemoryEye::new(alloc, &[])?;
+    let found = view.search(&mut desk, &mut eye, ask)?;
+    let first = found.at == at && hits(alloc, &desk)?.as_slice() == wanted;
+    let found = search_pinned(view, &mut desk, &mut eye, ask)?;
+    Ok((
+        first,
+        found == at && hits(alloc, &desk)?.as_slice() == wanted,
+    ))
 }
 
 #[test]
@@ -225,14 +234,10 @@ fn finds_live_points(rt: HostRuntime) -> Result<(), Fail> {
     let alloc = rt.alloc();
     for (freeze_at, count, merges, (k, l, x), at, wanted) in SEARCHES {
         let params = Params::new(1, 2, 10, 1, 1, 1, 1, freeze_at).ok_or("no parameters")?;
-        let view = made(alloc, &params, count.min(5), merges)?;
-        assert!(rt; view.can_begin());
-        assert_eq!(rt; view.segment()?.is_some(), merges);
         let ask = Ask::new(k, l, Vector::copy(alloc, &[x])?).ok_or("no ask")?;
-        let found = searched(alloc, &params, &view, &ask)?;
-        assert!(rt; found.0 == at && found.1.as_slice() == wanted);
-        let found = pinned(alloc, &params, &view, &ask)?;
-        assert!(rt; found.0 == at && found.1.as_slice() == wanted);
+        let view = made(alloc, &params, count.min(5), merges)?;
+        assert!(rt; view.can_begin() && view.segment()?.is_some() == merges);
+        assert_eq!(rt; finds(alloc, &view, &ask, at, wanted)?, (true, true));
     }
     Ok(())
 }
@@ -258,10 +263,12 @@ fn replaced(alloc: Global, params: &Params) -> Result<View<MemorySeal>, Fail>
 fn goes_on_from_a_segment(rt: HostRuntime) -> Result<(), Fail> {
     let alloc = rt.alloc();
     let params = Params::new(1, 2, 10, 1, 1, 1, 1, 100).ok_or("no parameters")?;
+    let ask = Ask::new(2, 4, Vector::copy(alloc, &[10])?).ok_or("no ask")?;
     let view = replaced(alloc, &params)?;
     assert_eq!(rt; view.next(), 3);
-    let ask = Ask::new(2, 4, Vector::copy(alloc, &[10])?).ok_or("no ask")?;
-    let found = searched(alloc, &params, &view, &ask)?;
-    assert!(rt; found.0 == 5 && found.1.as_slice() == [(1, 4), (2, 100)].as_slice());
+    assert_eq!(rt;
+        finds(alloc, &view, &ask, 5, &[(1, 4), (2, 100)])?,
+        (true, true)
+    );
     Ok(())
 }
