@@ -60,11 +60,12 @@ pub pids_ended : (s : State) (o : Option Begun) → (front : List ℕ) × (pids_
 pids_ended s None = ([], refl)
 pids_ended s (Some b) =
     let taken : List Point = points_in (take b.frozen s.ros) in
-    let rest : List Point = points_in (drop b.frozen s.ros) in
-    (pids_of (s.lti.points ++ taken),
-     ap (λ t. pids_of (s.lti.points ++ t ++ s.rw.points)) (sym (ap points_in (take-append-drop b.frozen s.ros)) ∙ points_append (take b.frozen s.ros) (drop b.frozen s.ros))
-     ∙ ap pids_of (ap (λ t. t ++ s.rw.points) (sym (append_assoc s.lti.points taken rest)) ∙ append_assoc (s.lti.points ++ taken) rest s.rw.points)
-     ∙ pids_append (s.lti.points ++ taken) (rest ++ s.rw.points))
+    let rest : List Point = points_in (drop b.frozen s.ros) in (
+      pids_of (s.lti.points ++ taken),
+      ap (λ t. pids_of (s.lti.points ++ t ++ s.rw.points)) (sym (ap points_in (take-append-drop b.frozen s.ros)) ∙ points_append (take b.frozen s.ros) (drop b.frozen s.ros))
+          ∙ ap pids_of (ap (λ t. t ++ s.rw.points) (sym (append_assoc s.lti.points taken rest)) ∙ append_assoc (s.lti.points ++ taken) rest s.rw.points)
+          ∙ pids_append (s.lti.points ++ taken) (rest ++ s.rw.points),
+    )
 
 begun_ended : (s : State) (o : Option Begun) → (P : Begun → Type 0) → s.begun ≡ o → MatchOption (switched s empty_graph o).begun (Unit {0}) P
 begun_ended s None P e = subst (λ (o : Option Begun). MatchOption o (Unit {0}) P) (sym e) tt
@@ -145,10 +146,10 @@ view_ended view segment w rising may =
     let below : AllByRecursion (λ pid. pid < view.next) (pids_of stay) = all_right (λ pid. pid < view.next) front (pids_of stay) (subst (AllByRecursion (λ pid. pid < view.next)) is (below_all view.next (pids_in view.segment view.memory) w.below)) in
     let new : List ℕ = item_pids segment.items in
     let older : AllByRecursion (λ p. AllByRecursion (λ y. p < y) (pids_of stay)) new =
-        all_map (λ p. AllByRecursion (λ y. p < y) (pids_of stay)) (λ (x : Item). x.0) segment.items
-        (all_weaker (λ (x : Item). All (λ (y : Point). x.0 < y.pid) stay) (λ (x : Item). AllByRecursion (λ y. x.0 < y) (pids_of stay)) segment.items
-        (λ x h. all_map (λ y. x.0 < y) (λ (y : Point). y.pid) stay (recursion_from_All (λ (y : Point). x.0 < y.pid) stay h))
-        (recursion_from_All (λ (x : Item). All (λ (y : Point). x.0 < y.pid) stay) segment.items may.older)) in
+    all_map (λ p. AllByRecursion (λ y. p < y) (pids_of stay)) (λ (x : Item). x.0) segment.items
+    (all_weaker (λ (x : Item). All (λ (y : Point). x.0 < y.pid) stay) (λ (x : Item). AllByRecursion (λ y. x.0 < y) (pids_of stay)) segment.items
+    (λ x h. all_map (λ y. x.0 < y) (λ (y : Point). y.pid) stay (recursion_from_All (λ (y : Point). x.0 < y.pid) stay h))
+    (recursion_from_All (λ (x : Item). All (λ (y : Point). x.0 < y.pid) stay) segment.items may.older)) in
     record {
       rising = increasing_from_rises (new ++ pids_of stay) (rises_two new (pids_of stay) (rises_from_increasing new rising) old older);
       below = All-from_recursion (λ pid. pid < view.next) (new ++ pids_of stay) (all_append (λ pid. pid < view.next) new (pids_of stay) (all_map (λ pid. pid < view.next) (λ (x : Item). x.0) segment.items (recursion_from_All (λ (x : Item). x.0 < view.next) segment.items may.below)) below);

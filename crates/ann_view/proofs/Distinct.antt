@@ -21,9 +21,10 @@ Apart xs ys = (p : ℕ) → has xs p ≡ true → has ys p ≡ true → ⊥
 
 pub distinct_append : (xs ys : List ℕ) → Distinct xs → Distinct ys → Apart xs ys → Distinct (xs ++ ys)
 distinct_append [] ys d e apart = e
-distinct_append (x ∷ xs) ys (n, d) e apart =
-    (has_append xs ys x ∙ ap (λ t. t || has ys x) n ∙ not_among ys x (λ h. apart x (has_here x x xs (eq-eqb x x refl)) h),
-     distinct_append xs ys d e (λ p h k. apart p (has_later x p xs h) k))
+distinct_append (x ∷ xs) ys (n, d) e apart = (
+  has_append xs ys x ∙ ap (λ t. t || has ys x) n ∙ not_among ys x (λ h. apart x (has_here x x xs (eq-eqb x x refl)) h),
+  distinct_append xs ys d e (λ p h k. apart p (has_later x p xs h) k),
+)
 
 pub distinct_filter : (q : ℕ → Bool) (xs : List ℕ) → Distinct xs → Distinct (filter q xs)
 distinct_filter q [] d = tt
@@ -55,12 +56,13 @@ near_distinct graph query width = near_differ graph.points query width graph.ent
 
 pub new_from : (there xs : List ℕ) → Distinct xs → Apart xs there → AreNew there xs
 new_from there [] d apart = tt
-new_from there (x ∷ xs) (n, d) apart =
-    (not_among there x (λ h. apart x (has_here x x xs (eq-eqb x x refl)) h),
-     new_from (x ∷ there) xs d (λ p h k. elim (has_cases x p there k) [
-       | inl e ↦ false≢true (sym n ∙ subst (λ (t : ℕ). has xs t ≡ true) (eqb-true p x e) h)
-       | inr later ↦ apart p (has_later x p xs h) later
-     ]))
+new_from there (x ∷ xs) (n, d) apart = (
+  not_among there x (λ h. apart x (has_here x x xs (eq-eqb x x refl)) h),
+  new_from (x ∷ there) xs d (λ p h k. elim (has_cases x p there k) [
+    | inl e ↦ false≢true (sym n ∙ subst (λ (t : ℕ). has xs t ≡ true) (eqb-true p x e) h)
+    | inr later ↦ apart p (has_later x p xs h) later
+  ]),
+)
 
 pub distinct_from_each : (xs : List ℕ) → IsDistinct eqb xs → Distinct xs
 unfolding IsDistinct

@@ -129,9 +129,9 @@ module _ (s : State) (query : List ℕ) (width : ℕ) (r : Rises (pids_of (all_p
       let two : List Ranked = flat_map (λ (g : Graph). near_points s.dead g query width) s.ros in
       let start_limit : first.limit ≡ k = ap (λ (t : RankingShown). t.limit) empty in
       let points : end.points ≡ with_all k (one ++ two) [] =
-          q ∙ ap (λ n. with_all n two mid.points) (l ∙ start_limit)
-          ∙ ap (with_all k two) (p ∙ ap (λ (t : RankingShown). with_all t.limit one t.points) empty)
-          ∙ sym (with_all-append k one two []) in
+      q ∙ ap (λ n. with_all n two mid.points) (l ∙ start_limit)
+      ∙ ap (with_all k two) (p ∙ ap (λ (t : RankingShown). with_all t.limit one t.points) empty)
+      ∙ sym (with_all-append k one two []) in
       ap₂ (λ (n : ℕ) (t : List Ranked). (let x : RankingShown = record { limit = n; points = t } in x)) (m ∙ l ∙ start_limit) (points ∙ near_joined k)
 
 -- ---- frozen graphs by their rows

@@ -6,6 +6,7 @@
 //! search works on a desk of its own.
 #![tactic(auto)]
 
+mod apply;
 mod frozen_list;
 mod near;
 mod op;
@@ -13,6 +14,8 @@ mod open_merge;
 mod pinned;
 mod search;
 mod temp;
+#[cfg(test)]
+mod tests;
 mod view;
 
 pub use op::Op;
