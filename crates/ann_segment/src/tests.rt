@@ -75,31 +75,55 @@ fn codebook(alloc: Global) -> Result<Codebook, Fail> {
     Ok(Codebook::read(alloc, &bytes, 1, 1)?)
 }
 
-// Which blocks of a segment with these bytes are refused: the one for which it isn't opened under the number, or those
-// that aren't verified.
-fn refused(alloc: Global, number: u64, bytes: &[u8]) -> Result<Vec<u64>, Fail> {
-    let params = Params::new(1, 2, 4, 1, 1, 1, 1, 100).ok_or("no parameters")?;
-    let book = codebook(alloc)?;
+// The parameters of an index that such a segment is of.
+fn params() -> Result<Params, Fail> {
+    Ok(Params::new(1, 2, 4, 1, 1, 1, 1, 100).ok_or("no parameters")?)
+}
+
+// The segment of these bytes under a number, or why it isn't opened.
+fn opened(
+    alloc: Global,
+    number: u64,
+    bytes: &[u8],
+    eye: &mut MemoryEye,
+) -> Result<Result<Segment<MemorySeal>, SegmentRefused>, Fail> {
     let mut vault = MemoryVault::new(alloc, &[])?;
     vault.preset(number, bytes)?;
     let seal = vault.open(number)?.ok_or("no seal")?;
-    let mut eye = MemoryEye::new(alloc, &[])?;
+    match Segment::open(alloc, seal, number, &params()?, eye) {
+        Ok(segment) => Ok(Ok(segment)),
+        Err((why, _seal)) => Ok(Err(why)),
+    }
+}
+
+// Which node blocks of a segment aren't verified.
+fn unverified(
+    alloc: Global,
+    segment: &Segment<MemorySeal>,
+    eye: &mut MemoryEye,
+) -> Result<Vec<u64>, Fail> {
+    let (params, book) = (params()?, codebook(alloc)?);
+    let mut page = [0; 4096];
     let mut blocks = Vec::new(alloc);
-    match Segment::open(alloc, seal, number, &params, &mut eye) {
-        Ok(segment) => {
-            let mut page = [0; 4096];
-            for row in 0..segment.count() {
-                match segment.verify(row, &book, &params, &mut eye, &mut page) {
-                    Ok(()) => {}
-                    Err(VerifyRefused::BadSegment { block }) => blocks.push(block)?,
-                    Err(why) => return Err(why.into()),
-                }
-            }
+    for row in 0..segment.count() {
+        match segment.verify(row, &book, &params, eye, &mut page) {
+            Ok(()) => {}
+            Err(VerifyRefused::BadSegment { block }) => blocks.push(block)?,
+            Err(why) => return Err(why.into()),
         }
-        Err((SegmentRefused::BadSegment { block }, _seal)) => blocks.push(block)?,
-        Err((why, _seal)) => return Err(why.into()),
     }
     Ok(blocks)
+}
+
+// Which blocks of a segment of these bytes are refused: the one for which it isn't opened under the number, or those
+// that aren't verified.
+fn refused(alloc: Global, number: u64, bytes: &[u8]) -> Result<Vec<u64>, Fail> {
+    let mut eye = MemoryEye::new(alloc, &[])?;
+    match opened(alloc, number, bytes, &mut eye)? {
+        Ok(segment) => unverified(alloc, &segment, &mut eye),
+        Err(SegmentRefused::BadSegment { block }) => Ok(vec![in alloc; block]?),
+        Err(why) => Err(why.into()),
+    }
 }
 
 #[test]
@@ -118,7 +142,7 @@ fn a_segment_is_written(rt: HostRuntime) -> Result<(), Fail> {
     Ok(())
 }
 
-// A header's call, three writes of the front, two of the nodes, and the seal.
+// The draft is begun, the front is written in three calls and the nodes in two, and the draft is sealed.
 #[test]
 fn a_call_of_the_vault_fails(rt: HostRuntime) -> Result<(), Fail> {
     for call in 1..=7 {
@@ -126,6 +150,18 @@ fn a_call_of_the_vault_fails(rt: HostRuntime) -> Result<(), Fail> {
         assert_eq!(rt; refused, Some(SegmentRefused::Disk), "{call}");
     }
     assert_eq!(rt; written(rt.alloc(), &[8])?.count(), 2);
+    Ok(())
+}
+
+// The length, the header and the directory are read.
+#[test]
+fn a_call_of_the_eye_fails(rt: HostRuntime) -> Result<(), Fail> {
+    let bytes = text(rt.alloc())?;
+    for call in 1..=3 {
+        let mut eye = MemoryEye::new(rt.alloc(), &[call])?;
+        let refused = opened(rt.alloc(), 13, &bytes, &mut eye)?.err();
+        assert_eq!(rt; refused, Some(SegmentRefused::Disk), "{call}");
+    }
     Ok(())
 }
 
@@ -195,8 +231,8 @@ fn segments_with_a_changed_byte(rt: HostRuntime) -> Result<(), Fail> {
     for (at, byte, wanted) in CHANGES {
         let mut bytes = text(rt.alloc())?;
         *bytes.get_mut(at).ok_or("no such byte")? = byte;
-        let blocks = refused(rt.alloc(), 13, &bytes)?;
-        assert_eq!(rt; blocks.as_slice(), wanted, "{at} {byte}");
+        let refused = refused(rt.alloc(), 13, &bytes)?;
+        assert_eq!(rt; refused.as_slice(), wanted, "{at} {byte}");
     }
     Ok(())
 }
@@ -217,8 +253,8 @@ fn segments_of_another_length_or_number(rt: HostRuntime) -> Result<(), Fail> {
     ] {
         let mut bytes = text(rt.alloc())?;
         bytes.resize(length, 0)?;
-        let blocks = refused(rt.alloc(), number, &bytes)?;
-        assert_eq!(rt; blocks.as_slice(), wanted, "{length} {number}");
+        let refused = refused(rt.alloc(), number, &bytes)?;
+        assert_eq!(rt; refused.as_slice(), wanted, "{length} {number}");
     }
     Ok(())
 }
