@@ -1,7 +1,9 @@
-// `once D R L A/B` in C++ by the same rules: reads a script of inserts and searches of one client from standard input,
-// and writes the same transcript. Every point stands in one graph.
+// `once D R L A/B` in C++ by the same rules: reads a script of one client from standard input, and writes the same
+// transcript. A graph with 100,000 points freezes, and a walk goes through each; deleted points fill a walk and aren't told.
 #include "rules.h"
+#include <algorithm>
 #include <cstdio>
+#include <cstring>
 #include <string>
 #include <unordered_map>
 
@@ -32,13 +34,126 @@ struct Words {
 };
 
 // As a program that judges a script before it serves it, this one keeps the commands first.
-struct Command { bool insert; u64 tag; u32 k, l; std::vector<u8> vector; };
+struct Change { char verb; u64 tag; std::vector<u8> vector; };
+struct Command { bool search, batch; std::vector<Change> changes; u32 k, l; std::vector<u8> query; };
+
+static bool is(const char *word, size_t size, const char *verb) { return size == strlen(verb) && !memcmp(word, verb, size); }
+
+static void components(Words &line, std::vector<u8> &vector) {
+    u64 n;
+    for (const char *before = line.at; line.number(n); before = line.at) {
+        while (*before == ' ' || *before == '\t') before++;
+        if (*before == ';') return;
+        vector.push_back(n);
+    }
+}
+
+// A change, from its verb on, up to the word `;` behind it.
+static Change change(Words &line, const char *verb) {
+    Change c{verb[0], 0, {}};
+    line.number(c.tag);
+    if (c.verb != 'd') components(line, c.vector);
+    else { const char *word; size_t size; line.next(word, size); }
+    return c;
+}
+
+static Command command(Words &line) {
+    const char *word;
+    size_t size;
+    line.next(word, size);
+    Command c{};
+    u64 n;
+    c.search = is(word, size, "search");
+    c.batch = is(word, size, "batch");
+    if (c.search) {
+        line.number(n), c.k = n, line.number(n), c.l = n;
+        components(line, c.query);
+    } else if (c.batch) {
+        while (line.next(word, size)) c.changes.push_back(change(line, word));
+    } else c.changes.push_back(change(line, word));
+    return c;
+}
+
+struct Index {
+    Graph empty, g;
+    std::vector<std::pair<u32, Graph>> frozen;
+    u32 first = 0, entries = 0;
+    std::vector<u64> tags;
+    std::vector<bool> dead;
+    std::unordered_map<u64, u32> live;
+    Scratch s;
+
+    // The first refusal of an update, or nothing: each change is judged behind those before it.
+    std::string judge(const Command &c) const {
+        char word[128];
+        std::unordered_map<u64, bool> now;
+        for (size_t i = 0; i < c.changes.size(); i++) {
+            const Change &x = c.changes[i];
+            auto changed = now.find(x.tag);
+            bool there = changed != now.end() ? changed->second : live.count(x.tag) > 0;
+            std::string before = c.batch ? "change " + std::to_string(i + 1) + " " : "";
+            if (x.verb != 'd' && x.vector.size() != g.d) snprintf(word, sizeof word, "dimension %zu of %u", x.vector.size(), g.d);
+            else if (x.verb == 'i' && there) snprintf(word, sizeof word, "present %llu", (unsigned long long)x.tag);
+            else if (x.verb != 'i' && !there) snprintf(word, sizeof word, "absent %llu", (unsigned long long)x.tag);
+            else { now[x.tag] = x.verb != 'd'; continue; }
+            return before + word + " at " + std::to_string(entries);
+        }
+        return "";
+    }
+
+    void make(const Change &x) {
+        entries++;
+        if (x.verb != 'i') dead[live[x.tag]] = true, live.erase(x.tag);
+        if (x.verb == 'd') return;
+        put(g, x.vector.data(), s);
+        live[x.tag] = tags.size();
+        tags.push_back(x.tag), dead.push_back(false);
+        if (tags.size() - first < 100000) return;
+        frozen.emplace_back(first, std::move(g));
+        g = empty, first = tags.size();
+    }
+
+    void near(u32 from, const Graph &graph, const Command &c, std::vector<std::pair<u32, u32>> &hits) {
+        walk(graph, c.query.data(), c.l, s);
+        for (u32 j = 0; j < s.pool.size; j++) {
+            u32 pid = from + s.pool.number(j);
+            if (!dead[pid]) hits.emplace_back(s.pool.distance(j), pid);
+        }
+    }
+
+    std::string search(const Command &c) {
+        std::vector<std::pair<u32, u32>> hits;
+        near(first, g, c, hits);
+        for (auto &[from, graph] : frozen) near(from, graph, c, hits);
+        if (!frozen.empty()) std::sort(hits.begin(), hits.end());
+        std::string out = "found at " + std::to_string(entries);
+        if (hits.empty()) out += " none";
+        char item[64];
+        for (size_t i = 0; i < hits.size() && i < c.k; i++) {
+            snprintf(item, sizeof item, " %llu:%u", (unsigned long long)tags[hits[i].second], hits[i].first);
+            out += item;
+        }
+        return out;
+    }
+
+    std::string reply(const Command &c) {
+        if (c.search && c.query.size() != g.d) return "dimension " + std::to_string(c.query.size()) + " of " + std::to_string(g.d);
+        if (c.search) return search(c);
+        std::string refused = judge(c);
+        if (!refused.empty()) return refused;
+        for (const Change &x : c.changes) make(x);
+        const char *done = c.changes[0].verb == 'i' ? "inserted " : c.changes[0].verb == 'd' ? "deleted " : "replaced ";
+        return (c.batch ? "accepted " + std::to_string(c.changes.size()) : done + std::to_string(c.changes[0].tag)) + " at " + std::to_string(entries);
+    }
+};
 
 int main(int count, char **words) {
     if (count != 6) return 2;
-    Graph g{};
+    Index index{};
+    Graph &g = index.empty;
     g.d = atoi(words[2]), g.r = atoi(words[3]), g.l = atoi(words[4]);
     sscanf(words[5], "%u/%u", &g.a, &g.b);
+    index.g = g;
     std::string text = input(), name;
     std::vector<Command> commands;
     for (size_t at = 0; at < text.size();) {
@@ -49,50 +164,12 @@ int main(int count, char **words) {
         size_t size;
         if (line.next(word, size)) {
             name.assign(word, size);
-            line.next(word, size);
-            Command c{};
-            u64 n;
-            c.insert = size == 6 && !memcmp(word, "insert", 6);
-            if (c.insert) line.number(c.tag);
-            else { line.number(n); c.k = n; line.number(n); c.l = n; }
-            while (line.number(n)) c.vector.push_back(n);
-            commands.push_back(std::move(c));
+            commands.push_back(command(line));
         }
         at = end + 1;
     }
-    Scratch s;
-    std::vector<u64> tags;
-    std::unordered_map<u64, u32> live;
     std::string out;
-    char item[128];
-    for (size_t i = 0; i < commands.size(); i++) {
-        Command &c = commands[i];
-        out += name + " " + std::to_string(i + 1) + " ";
-        if (c.vector.size() != g.d) {
-            snprintf(item, sizeof item, c.insert ? "dimension %zu of %u at %zu\n" : "dimension %zu of %u\n", c.vector.size(), g.d, tags.size());
-            out += item;
-        } else if (c.insert) {
-            bool there = live.count(c.tag);
-            if (!there) {
-                put(g, c.vector.data(), s);
-                live[c.tag] = tags.size();
-                tags.push_back(c.tag);
-            }
-            snprintf(item, sizeof item, "%s %llu at %zu\n", there ? "present" : "inserted", (unsigned long long)c.tag, tags.size());
-            out += item;
-        } else {
-            walk(g, c.vector.data(), c.l, s);
-            snprintf(item, sizeof item, "found at %zu", tags.size());
-            out += item;
-            if (!s.pool.size) out += " none";
-            for (u32 j = 0; j < s.pool.size && j < c.k; j++) {
-                snprintf(item, sizeof item, " %llu:%u", (unsigned long long)tags[s.pool.number(j)], s.pool.distance(j));
-                out += item;
-            }
-            out += "\n";
-        }
-    }
-    snprintf(item, sizeof item, "log %zu entries, %zu live\n", tags.size(), tags.size());
-    out += item;
+    for (size_t i = 0; i < commands.size(); i++) out += name + " " + std::to_string(i + 1) + " " + index.reply(commands[i]) + "\n";
+    out += "log " + std::to_string(index.entries) + " entries, " + std::to_string(index.live.size()) + " live\n";
     fwrite(out.data(), 1, out.size(), stdout);
 }

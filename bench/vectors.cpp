@@ -1,5 +1,7 @@
 // Writes a script of one client: N inserts with the tags 0 to N-1, and then Q searches of K and L.
 //     vectors KIND D N Q K L
+// or N commands of all kinds over some N/4 tags:
+//     vectors mixed D N
 // KIND is `even`: each component by the index's generator from the seed 1 on (searches: from 777 on); `close`: points
 // near a surface of 16 dimensions, as real descriptors are; `equal`: all vectors the same; `apart`: unit vectors, all
 // equally far from each other (N at most D).
@@ -40,7 +42,35 @@ static void line(const char *head, const std::vector<int> &v) {
     fwrite(out.data(), 1, out.size(), stdout);
 }
 
+// Inserts, deletes, replaces, batches of one to five changes, and searches; many are refused.
+static void mixed(int d, int n) {
+    Numbers numbers{9};
+    auto below = [&](uint32_t most) { return numbers.next() % most; };
+    auto tag = [&] { return std::to_string((below(1000) * 1000 + below(1000)) % (n / 4 + 1)); };
+    auto point = [&] {
+        std::string out;
+        for (int i = 0, size = below(100) ? d : d + 1; i < size; i++) out += ' ' + std::to_string(below(256));
+        return out;
+    };
+    auto change = [&] {
+        uint32_t which = below(8);
+        if (which < 5) return "insert " + tag() + point();
+        return which < 7 ? "delete " + tag() : "replace " + tag() + point();
+    };
+    for (int i = 0; i < n; i++) {
+        std::string out = "a ";
+        uint32_t which = below(10);
+        if (which < 6) out += change();
+        else if (which < 8) {
+            out += "batch " + change();
+            for (uint32_t more = below(5); more; more--) out += " ; " + change();
+        } else out += "search 10 40" + point();
+        puts(out.c_str());
+    }
+}
+
 int main(int count, char **words) {
+    if (count == 4 && std::string(words[1]) == "mixed") return mixed(atoi(words[2]), atoi(words[3])), 0;
     if (count != 7) return 2;
     std::string kind = words[1];
     int d = atoi(words[2]), n = atoi(words[3]), q = atoi(words[4]);
