@@ -81,6 +81,16 @@ def compare(folder, programs, maker, kind, points):
         print(f"{kind} {points} search l {l}: {search[0]:.1f} us, C++ {search[1]:.1f} us, ratio {search[0] / search[1]:.2f}, same hits {whole[0][2] == whole[1][2]}", flush=True)
 
 
+def mixed(folder, programs, maker, commands):
+    """Scripts of all commands: whether both sides write the same."""
+    for d in (4, 16):
+        path = os.path.join(folder, f"mixed-{d}-{commands}.script")
+        with open(path, "w") as out:
+            subprocess.run([maker, "mixed", str(d), str(commands)], stdout=out, check=True)
+        ours, theirs = timed(programs, ["once", str(d), "24", "40", ALPHA], path, 1)
+        print(f"mixed {d} {commands}: {ours[0]:.1f} s, C++ {theirs[0]:.1f} s, ratio {ours[0] / theirs[0]:.2f}, same transcript {ours[2] == theirs[2]}", flush=True)
+
+
 def kernels(folder, points, turns):
     """The timed loops of both sides: for each the least time of five runs in turns."""
     programs = (built("ann_bench"), compiled(folder, "kernels"))
@@ -102,6 +112,7 @@ def main():
     sizes = [int(n) for n in sys.argv[2:]] or [10000]
     kernels(folder, 2000, 40)
     maker, theirs, ours = compiled(folder, "vectors"), compiled(folder, "once"), built("ann_program")
+    mixed(folder, (ours, theirs), maker, 100000)
     for points in sizes:
         for kind in ("close", "even"):
             compare(folder, (ours, theirs), maker, kind, points)
