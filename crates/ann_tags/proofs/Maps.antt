@@ -177,9 +177,6 @@ first_pid (e ∷ es) tag =
 is_first : (x y : ℕ) (o : Option ℕ) → o ≡ Some x → o ≡ Some y → y ≡ x
 is_first x y o e f = cc
 
-
-
-
 -- a tag that is found has that one Pid
 pub pids_found : (live : Names) (tag pid : ℕ) → TagsDiffer live → get (map_of live) tag ≡ Some pid → pids_at live tag ≡ pid ∷ []
 pids_found live tag pid differ found =
