@@ -55,17 +55,18 @@ begun_inserted params s n tag vector =
 pub pids_begun : (s : State) (at : ℕ) → pids_of (all_points (begun_at s at)) ≡ pids_of (all_points s)
 pids_begun s at = elim (is_empty s.rw) as (λ t. pids_of (all_points (opened (cond t s (frozen s s.rw)) at)) ≡ pids_of (all_points s)) [ true ↦ refl | false ↦ pids_frozen s s.rw ]
 
--- what stays at the end of a merge stands last
-pub pids_ended : (s : State) (o : Option Begun) → (front : List ℕ) × (pids_of (all_points s) ≡ front ++ pids_of (all_points (switched s empty_graph o)))
-pids_ended s None = ([], refl)
-pids_ended s (Some b) =
+-- what stays at the end of a merge stands behind what it takes
+pub pids_taken : (s : State) (b : Begun) → pids_of (all_points s) ≡ pids_of (s.lti.points ++ points_in (take b.frozen s.ros)) ++ pids_of (all_points (switched s empty_graph (Some b)))
+pids_taken s b =
     let taken : List Point = points_in (take b.frozen s.ros) in
-    let rest : List Point = points_in (drop b.frozen s.ros) in (
-      pids_of (s.lti.points ++ taken),
-      ap (λ t. pids_of (s.lti.points ++ t ++ s.rw.points)) (sym (ap points_in (take-append-drop b.frozen s.ros)) ∙ points_append (take b.frozen s.ros) (drop b.frozen s.ros))
-          ∙ ap pids_of (ap (λ t. t ++ s.rw.points) (sym (append_assoc s.lti.points taken rest)) ∙ append_assoc (s.lti.points ++ taken) rest s.rw.points)
-          ∙ pids_append (s.lti.points ++ taken) (rest ++ s.rw.points),
-    )
+    let rest : List Point = points_in (drop b.frozen s.ros) in
+    ap (λ t. pids_of (s.lti.points ++ t ++ s.rw.points)) (sym (ap points_in (take-append-drop b.frozen s.ros)) ∙ points_append (take b.frozen s.ros) (drop b.frozen s.ros))
+    ∙ ap pids_of (ap (λ t. t ++ s.rw.points) (sym (append_assoc s.lti.points taken rest)) ∙ append_assoc (s.lti.points ++ taken) rest s.rw.points)
+    ∙ pids_append (s.lti.points ++ taken) (rest ++ s.rw.points)
+
+pids_ended : (s : State) (o : Option Begun) → (front : List ℕ) × (pids_of (all_points s) ≡ front ++ pids_of (all_points (switched s empty_graph o)))
+pids_ended s None = ([], refl)
+pids_ended s (Some b) = (pids_of (s.lti.points ++ points_in (take b.frozen s.ros)), pids_taken s b)
 
 begun_ended : (s : State) (o : Option Begun) → (P : Begun → Type 0) → s.begun ≡ o → MatchOption (switched s empty_graph o).begun (Unit {0}) P
 begun_ended s None P e = subst (λ (o : Option Begun). MatchOption o (Unit {0}) P) (sym e) tt
