@@ -1,5 +1,5 @@
 -- The Pids of a view, in order of age, as it goes on.
-use Rattle.std.proofs.Common.{◌≡◌, ℕ, suc, ◌+◌, ◌^◌, ◌≤◌, ◌<◌, Bool, true, false, cond, eqb, List, [], ◌∷◌, ◌++◌, refl, sym, ap, ◌∙◌, subst, arith, map, take, drop, length, append_assoc}
+use Rattle.std.proofs.Common.{◌≡◌, ℕ, ◌+◌, ◌<◌, true, false, cond, eqb, List, [], ◌∷◌, ◌++◌, refl, sym, ap, ◌∙◌, subst, arith, take, drop, length, append_assoc}
 use Rattle.std.specs.Prelude.{Option, Some, None, MatchOption, All, flat_map}
 use Rattle.std.specs.List.{AllByRecursion}
 use Rattle.std.specs.List.Sorted.{IsStrictlyIncreasing}
@@ -7,10 +7,10 @@ use Rattle.std.proofs.lemmas.List.{append-nil, take-append-drop}
 use Rattle.std.proofs.lemmas.List.Elements.{All-from_recursion, recursion_from_All}
 use Rattle.ann_types.specs.Graph.{Point, Graph, is_empty, empty_graph, pids_of}
 use Rattle.ann_types.specs.Put.{put}
-use Rattle.ann_types.specs.Fold.{Begun, State, all_points, start, frozen, grown, inserted, deleted, opened, begun_at, switched}
+use Rattle.ann_types.specs.Fold.{Begun, State, all_points, frozen, inserted, deleted, opened, begun_at, switched}
 use Rattle.ann_types.specs.Legal.{pid_end}
 use Rattle.ann_types.specs.declared.params.Params.{Params}
-use Rattle.ann_types.proofs.Sets.{Rises, rises_from_increasing, increasing_from_rises, rises_push, rises_right, all_append, all_left, all_right, all_weaker, all_map, all_of_map}
+use Rattle.ann_types.proofs.Sets.{Rises, rises_from_increasing, increasing_from_rises, rises_push, rises_right, all_append, all_right, all_weaker, all_map, all_of_map}
 use Rattle.ann_types.proofs.Named.{pids_append}
 use Rattle.ann_types.proofs.Graphs.{pids_put}
 use Rattle.ann_segment.specs.Directory.{Item, AreRising}

@@ -1,17 +1,16 @@
 -- A segment may end a merge where its Pids are those of the graph that the merge makes. It is for whoever applies an End.
-use Rattle.std.proofs.Common.{◌≡◌, ℕ, ◌<◌, Bool, true, false, cond, not, List, [], ◌∷◌, ◌++◌, ◌||◌, refl, sym, ap, ◌∙◌, subst, arith, map, filter, take, inl, inr, append_assoc}
-use Rattle.std.specs.Prelude.{Option, Some, None, IsSome, All, flat_map}
+use Rattle.std.proofs.Common.{◌≡◌, ℕ, ◌<◌, true, false, cond, not, List, [], ◌∷◌, ◌++◌, ◌||◌, refl, sym, ap, ◌∙◌, subst, take, inl, inr, append_assoc}
+use Rattle.std.specs.Prelude.{Option, Some, IsSome, All, flat_map}
 use Rattle.std.specs.List.{AllByRecursion}
 use Rattle.std.proofs.lemmas.Bool.{false≢true}
 use Rattle.std.proofs.lemmas.List.Elements.{All-from_recursion, recursion_from_All}
 use Rattle.ann_types.specs.Order.{has}
 use Rattle.ann_types.specs.Graph.{Point, Graph, empty_graph, pids_of}
-use Rattle.ann_types.specs.Index.{Index}
-use Rattle.ann_types.specs.Lists.{BasedList, names_of}
+use Rattle.ann_types.specs.Lists.{BasedList}
 use Rattle.ann_types.specs.Merge.{survivors}
 use Rattle.ann_types.specs.Fold.{Begun, State, all_points, switched, merge_of, fold_of}
 use Rattle.ann_types.proofs.Ordered.{has_append, has_cases, has_here, has_later}
-use Rattle.ann_types.proofs.Sets.{Rises, rises_from_increasing, rises_across, has_below, all_left, all_map, all_of_map}
+use Rattle.ann_types.proofs.Sets.{Rises, rises_from_increasing, rises_across, has_below, all_left, all_of_map}
 use Rattle.ann_types.proofs.Named.{pids_same, pids_append, names_merge_of}
 use Rattle.ann_types.proofs.Graphs.{all_from_has, wider_left, wider_right}
 use Rattle.ann_segment.specs.Directory.{Item}
