@@ -1,11 +1,10 @@
 -- Rounds by the rows of a segment are the rounds of the graph that it holds.
-use Rattle.std.proofs.Common.{◌≡◌, ◌≢◌, ℕ, zero, suc, ◌+◌, ◌*◌, ◌≤◌, ◌<◌, true, false, cond, not, List, [], ◌∷◌, ◌++◌, None, Some, ◌⊎◌, inl, inr, map, filter, length, take, get_or, refl, sym, ap, ap₂, subst, ◌∙◌, arith}
-use Rattle.std.specs.Prelude.{All, Option, Result, Ok, Err, IfErr, flat_map}
+use Rattle.std.proofs.Common.{◌≡◌, ℕ, zero, suc, ◌<◌, true, false, cond, not, List, [], ◌∷◌, ◌++◌, None, Some, ◌⊎◌, inl, inr, map, filter, length, get_or, refl, sym, ap, ap₂, subst, ◌∙◌, arith}
+use Rattle.std.specs.Prelude.{All, Option, Result, Ok, Err, IfErr}
 use Rattle.ann_beam.specs.declared.refused.SearchRefused.{SearchRefused}
 use Rattle.ann_beam.specs.declared.refused.SearchRefused.TheVariants.{BadSegment, Disk}
 use Rattle.std.specs.Option.{option_map}
 use Rattle.std.specs.List.{AllByRecursion}
-use Rattle.std.proofs.lemmas.Bool.{false≢true}
 use Rattle.std.proofs.lemmas.List.{get_or-map, length-map}
 use Rattle.std.proofs.lemmas.List.Elements.{recursion_from_All}
 use Rattle.ann_types.specs.Order.{has}
@@ -13,21 +12,20 @@ use Rattle.ann_types.specs.Distance.{distance}
 use Rattle.ann_types.specs.Walk.{Ground, near}
 use Rattle.ann_types.specs.Rounds.{round, rounds_on, rounds_of, rounds_from, rounds}
 use Rattle.ann_types.specs.Graph.{Point, Graph, with_vector, pids_of, links_of, tag_of, far_from, ground}
-use Rattle.ann_types.specs.Codes.{Book, code, decode, decoded, decoded_points}
-use Rattle.ann_types.specs.Index.{Index}
+use Rattle.ann_types.specs.Codes.{Book, code, decoded, decoded_points}
 use Rattle.ann_types.specs.Merge.{without}
 use Rattle.ann_types.specs.declared.params.Params.{Params}
 use Rattle.ann_types.proofs.Sets.{Rises}
-use Rattle.ann_types.proofs.Graphs.{AreLinked, IsEntry, entry_from_graph}
+use Rattle.ann_types.proofs.Graphs.{IsEntry, entry_from_graph}
 use Rattle.ann_types.proofs.Merges.{pids_decoded}
 use Rattle.ann_types.proofs.Coded.{HasWidth, IsCode, code_is_code, length_code}
 use Rattle.ann_types.proofs.Renamed.{Below, Renames, below_append, below_take, below_filter, below_near, rounds_map}
 use Rattle.ann_types.proofs.Rowed.{pid_at, pid_of_at, links_at, tag_at, far_at, renames_at}
 use Rattle.ann_pq.specs.Tables.{AreTablesOf, looked_up}
 use Rattle.ann_pq.proofs.Sums.{guided_is}
-use Rattle.ann_block.specs.Node.{NodeFields, node_of, judge_node}
+use Rattle.ann_block.specs.Node.{NodeFields, judge_node}
 use Rattle.ann_segment.specs.Directory.{Item, item_of}
-use Rattle.ann_segment.specs.Segment.{SegmentView, node_block}
+use Rattle.ann_segment.specs.Segment.{SegmentView}
 use Rattle.ann_segment.specs.Text.{row_of}
 use Rattle.ann_segment.specs.Holds.{Holds}
 use Rattle.ann_segment.proofs.Holding.{IsRowOf, point_at, has_row, names_back, below_mapped, holds_linked, holds_count, holds_row}
@@ -178,12 +176,12 @@ module _ {S : Type 0} (params : Params) (book : Book) (bytes : List ℕ) (segmen
         let pid : pid_at (decoded_points book graph.points) entry ≡ got.0 = ap (λ (xs : List ℕ). get_or xs entry 0) same_pids ∙ got.3 in
         let count = holds_count params book bytes segment graph h in (
           ap (rounds_from book graph.points query width w) got.1
-          ∙ ap (λ (p : ℕ). rounds_of (ground (decoded_points book graph.points) query p) width w (length graph.points)) (sym pid)
-          ∙ rounds_map (pid_at (decoded_points book graph.points)) (length (decoded_points book graph.points)) g (ground (decoded_points book graph.points) query (pid_at (decoded_points book graph.points) entry)) w' width w (length graph.points)
-          ∙ ap (λ (xs : List ℕ). map (λ r. get_or xs r 0) (rounds_of g width w (length graph.points))) same_pids
-          ∙ ap (λ (n : ℕ). map (pid_at graph.points) (rounds_of g width w n)) (sym count),
+              ∙ ap (λ (p : ℕ). rounds_of (ground (decoded_points book graph.points) query p) width w (length graph.points)) (sym pid)
+              ∙ rounds_map (pid_at (decoded_points book graph.points)) (length (decoded_points book graph.points)) g (ground (decoded_points book graph.points) query (pid_at (decoded_points book graph.points) entry)) w' width w (length graph.points)
+              ∙ ap (λ (xs : List ℕ). map (λ r. get_or xs r 0) (rounds_of g width w (length graph.points))) same_pids
+              ∙ ap (λ (n : ℕ). map (pid_at graph.points) (rounds_of g width w n)) (sym count),
           subst (λ (n : ℕ). Below n (rounds_of g width w (length segment.items))) same_count
-          (below_rounds (pid_at (decoded_points book graph.points)) (length (decoded_points book graph.points)) g (ground (decoded_points book graph.points) query (pid_at (decoded_points book graph.points) entry)) w' width w (length segment.items)),
+              (below_rounds (pid_at (decoded_points book graph.points)) (length (decoded_points book graph.points)) g (ground (decoded_points book graph.points) query (pid_at (decoded_points book graph.points) entry)) w' width w (length segment.items)),
         )
 
     -- What was ranked is what the definition ranks.

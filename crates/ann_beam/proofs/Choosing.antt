@@ -1,12 +1,12 @@
 -- The first unmarked rows of a pool, one by one.
-use Rattle.std.proofs.Common.{◌≡◌, ℕ, zero, suc, ◌+◌, ◌-◌, ◌≤◌, ◌<◌, Bool, true, false, cond, eqb, not, List, [], ◌∷◌, ◌++◌, ◌||◌, refl, sym, ap, ◌∙◌, subst, arith, take, filter, length, map, set, add-one, append_assoc, append-nil, inl, inr, eqb-true, eq-eqb, ◌⊎◌}
-use Rattle.std.specs.Prelude.{Option, Some, None, find, All}
+use Rattle.std.proofs.Common.{◌≡◌, ℕ, zero, suc, ◌+◌, ◌<◌, Bool, true, false, cond, eqb, not, List, [], ◌∷◌, ◌++◌, ◌||◌, refl, sym, ap, ◌∙◌, subst, arith, take, filter, length, map, set, add-one, append_assoc, append-nil, inl, inr, eqb-true, eq-eqb}
+use Rattle.std.specs.Prelude.{Some, None, find, All}
 use Rattle.std.specs.List.{AllByRecursion}
 use Rattle.std.proofs.lemmas.List.Elements.{recursion_from_All, All-from_recursion}
 use Rattle.ann_types.proofs.Sets.{all_append}
-use Rattle.std.proofs.lemmas.Bool.{false≢true, or_cases, or_right, both_ways, ne_eqb}
+use Rattle.std.proofs.lemmas.Bool.{or_cases, or_right, both_ways, ne_eqb}
 use Rattle.ann_types.specs.Order.{before, has, in_order}
-use Rattle.ann_types.proofs.Ordered.{IsAfter, IsRising, before-irreflexive, rising_in_order, rising_take, has_append, has_from_take}
+use Rattle.ann_types.proofs.Ordered.{IsAfter, IsRising, before-irreflexive, rising_in_order, rising_take, has_from_take}
 use Rattle.ann_types.proofs.Walks.{find_has}
 use Rattle.ann_pool.specs.declared.item.Item.{Item}
 use Rattle.ann_pool.specs.Pool.{Shown, unvisited, marked}

@@ -1,13 +1,17 @@
 -- Pids and hits side by side, and the place of a point among them.
-use Rattle.std.proofs.Common.{◌≡◌, ℕ, zero, suc, ◌+◌, ◌≤◌, ◌<◌, Bool, true, false, cond, eqb, List, [], ◌∷◌, ◌++◌, ◌||◌, refl, sym, ap, ◌∙◌, subst, arith, take, drop, map, length, get_or, add-one, eqb-true, eq-eqb}
+use Rattle.std.proofs.Common.{◌≡◌, ℕ, zero, suc, ◌≤◌, ◌<◌, Bool, true, false, cond, eqb, List, [], ◌∷◌, ◌++◌, ◌||◌, refl, sym, ap, ◌∙◌, subst, arith, take, map, length, get_or, inl, inr, eqb-true, eq-eqb}
 use Rattle.std.specs.Prelude.{insert}
-use Rattle.std.proofs.lemmas.List.{take-map}
-use Rattle.std.proofs.lemmas.Bool.{false≢true, ne_eqb, both_ways, false_from_ne_true}
+use Rattle.std.specs.List.{AllByRecursion, IsDistinct}
+use Rattle.std.proofs.lemmas.Map.Keys.{IsDistinct-head, IsDistinct-tail}
+use Rattle.std.proofs.lemmas.List.{take-map, take_all}
+use Rattle.std.proofs.lemmas.Bool.{false≢true, or_from, ne_eqb, both_ways, false_from_ne_true}
 use Rattle.ann_types.specs.declared.hit.Hit.{Hit}
 use Rattle.ann_types.specs.Order.{before, has, placed, all_placed, in_order, top}
-use Rattle.ann_types.proofs.Ordered.{cut_placed, all_placed-append, has_placed, has_in_order, has_from_take}
+use Rattle.ann_types.proofs.Ordered.{has_here, has_later, has_cases, cut_placed, all_placed-append, has_placed, has_in_order, has_from_take}
+use Rattle.ann_pool.specs.declared.item.Item.{Item}
+use Rattle.ann_pool.proofs.Orders.{Precedes, before_tells, before_from, before-asymmetric}
 use Rattle.ann_dead.specs.Pids.{has as is_dead}
-use Rattle.ann_beam.specs.Ranking.{Ranked, hit_of, joined, nearer, rank, ranked, with_all, with_ranked}
+use Rattle.ann_beam.specs.Ranking.{IsRanked, Ranked, hit_of, joined, nearer, rank, ranked, with_all, with_ranked}
 
 pub length-joined : (pids : List ℕ) (hits : List Hit) → length pids ≡ length hits → length (joined pids hits) ≡ length hits
 length-joined [] [] e = refl
@@ -42,33 +46,68 @@ joined_at (suc i) dp d dh (p ∷ pids) (h ∷ hits) e l = joined_at i dp d dh pi
 
 -- ---- the place of a point
 
--- x belongs behind the first points
-abbrev pub Belongs : Ranked → List Ranked → ℕ → Type 0
-Belongs x s i = ranked x s ≡ take i s ++ ranked x (drop i s)
+-- a point as an item of a pool, which stand in the same order
+abbrev as_item : Ranked → Item
+as_item x = record { distance = x.distance; number = x.pid; visited = false }
 
-passed : (x : Ranked) (s : List Ranked) (i : ℕ) (d : Ranked) → i < length s → nearer x (get_or s i d) ≡ false → Belongs x s i → Belongs x s (i + 1)
-passed x s i d l h e = subst (Belongs x s) (sym (add-one i)) (e ∙ shifted x s i d l h)
-  where
-    shifted : (x : Ranked) (s : List Ranked) (i : ℕ) (d : Ranked) → i < length s → nearer x (get_or s i d) ≡ false → take i s ++ ranked x (drop i s) ≡ take (suc i) s ++ ranked x (drop (suc i) s)
-    shifted x [] i d l h = absurd (omega arith)
-    shifted x (y ∷ s) zero d l h = ap (λ t. cond t (x ∷ y ∷ s) (y ∷ ranked x s)) h
-    shifted x (y ∷ s) (suc i) d l h = ap (λ t. y ∷ t) (shifted x s i d (omega arith) h)
+not_before : (x y : Ranked) → nearer x y ≡ false → Precedes (as_item x) (as_item y) → ⊥
+not_before x y h p = both_ways (nearer x y) h (before_from (as_item x) (as_item y) p)
 
-found : (x : Ranked) (s : List Ranked) (i : ℕ) (d : Ranked) → i < length s → nearer x (get_or s i d) ≡ true → Belongs x s i → ranked x s ≡ insert s i x
-found x s i d l h e = e ∙ there x s i d l h
-  where
-    there : (x : Ranked) (s : List Ranked) (i : ℕ) (d : Ranked) → i < length s → nearer x (get_or s i d) ≡ true → take i s ++ ranked x (drop i s) ≡ insert s i x
-    there x [] i d l h = absurd (omega arith)
-    there x (y ∷ s) zero d l h = ap (λ t. cond t (x ∷ y ∷ s) (y ∷ ranked x s)) h
-    there x (y ∷ s) (suc i) d l h = ap (λ t. y ∷ t) (there x s i d (omega arith) h)
+nearer-asymmetric : (x y : Ranked) → nearer x y ≡ true → nearer y x ≡ false
+nearer-asymmetric x y h = before-asymmetric (as_item x) (as_item y) h
 
-last_of_all : (x : Ranked) (s : List Ranked) (i : ℕ) → length s ≡ i → Belongs x s i → ranked x s ≡ insert s i x
-last_of_all x s i l e = e ∙ behind x s i l
+-- a point that doesn't stand before a second one, which doesn't stand before a third one
+not_nearer-trans : (x y z : Ranked) → nearer x y ≡ false → nearer y z ≡ false → nearer x z ≡ false
+not_nearer-trans x y z h k =
+    let first = not_before x y h in
+    let second = not_before y z k in
+    false_from_ne_true (nearer x z) (λ e. let p = before_tells (as_item x) (as_item z) e in let none : ⊥ = grind arith in none)
+
+none_before : (x y : Ranked) (s : List Ranked) → nearer x y ≡ true → AllByRecursion (λ z. nearer z y ≡ false) s → AllByRecursion (λ z. nearer z x ≡ false) s
+none_before x y [] h a = tt
+none_before x y (z ∷ s) h (k, a) = (not_nearer-trans z y x k (nearer-asymmetric x y h), none_before x y s h a)
+
+none_before_ranked : (y x : Ranked) (s : List Ranked) → nearer x y ≡ false → AllByRecursion (λ z. nearer z y ≡ false) s → AllByRecursion (λ z. nearer z y ≡ false) (ranked x s)
+none_before_ranked y x [] h a = (h, tt)
+none_before_ranked y x (z ∷ s) h (k, a) = elim (nearer x z) as (λ t. AllByRecursion (λ z. nearer z y ≡ false) (cond t (x ∷ z ∷ s) (z ∷ ranked x s))) [
+  | true ↦ (h, (k, a))
+  | false ↦ (k, none_before_ranked y x s h a)
+]
+
+order_ranked : (x : Ranked) (s : List Ranked) → IsRanked s → IsRanked (ranked x s)
+order_ranked x [] r = (tt, tt)
+order_ranked x (y ∷ s) (a, r) = elim (nearer x y) as (λ t. nearer x y ≡ t → IsRanked (cond t (x ∷ y ∷ s) (y ∷ ranked x s))) [
+  | true ↦ λ h. ((nearer-asymmetric x y h, none_before x y s h a), (a, r))
+  | false ↦ λ h. (none_before_ranked y x s h a, order_ranked x s r)
+] refl
+
+all_take : (y : Ranked) (n : ℕ) (s : List Ranked) → AllByRecursion (λ z. nearer z y ≡ false) s → AllByRecursion (λ z. nearer z y ≡ false) (take n s)
+all_take y zero s a = tt
+all_take y (suc n) [] a = tt
+all_take y (suc n) (z ∷ s) (h, a) = (h, all_take y n s a)
+
+order_take : (n : ℕ) (s : List Ranked) → IsRanked s → IsRanked (take n s)
+order_take zero s r = tt
+order_take (suc n) [] r = tt
+order_take (suc n) (x ∷ s) (a, r) = (all_take x n s a, order_take n s r)
+
+all_at : (y : Ranked) (s : List Ranked) (i : ℕ) (d : Ranked) → AllByRecursion (λ z. nearer z y ≡ false) s → i < length s → nearer (get_or s i d) y ≡ false
+all_at y [] i d a l = absurd (omega arith)
+all_at y (z ∷ s) zero d (h, a) l = h
+all_at y (z ∷ s) (suc i) d (h, a) l = all_at y s i d a (omega arith)
+
+-- A point belongs behind one that it doesn't stand before, and before one that it stands before.
+place_is : (x : Ranked) (s : List Ranked) (i : ℕ) (d : Ranked) → IsRanked s → i ≤ length s → (i < length s → nearer x (get_or s i d) ≡ true) → ((k : ℕ) → i ≡ suc k → nearer x (get_or s k d) ≡ false) → ranked x s ≡ insert s i x
+place_is x [] zero d r l after before = refl
+place_is x [] (suc i) d r l after before = absurd (omega arith)
+place_is x (y ∷ s) zero d r l after before = ap (λ t. cond t (x ∷ y ∷ s) (y ∷ ranked x s)) (after (omega arith))
+place_is x (y ∷ s) (suc i) d (a, r) l after before =
+    ap (λ t. cond t (x ∷ y ∷ s) (y ∷ ranked x s)) (head i (omega arith) (before i refl))
+    ∙ ap (λ t. y ∷ t) (place_is x s i d r (omega arith) (λ k. after (omega arith)) (λ k e. before (suc k) (ap suc e)))
   where
-    behind : (x : Ranked) (s : List Ranked) (i : ℕ) → length s ≡ i → take i s ++ ranked x (drop i s) ≡ insert s i x
-    behind x [] i l = subst (λ (n : ℕ). take n [] ++ ranked x (drop n []) ≡ insert [] n x) l refl
-    behind x (y ∷ s) zero l = absurd (omega arith)
-    behind x (y ∷ s) (suc i) l = ap (λ t. y ∷ t) (behind x s i (omega arith))
+    head : (i : ℕ) → i ≤ length s → nearer x (get_or (y ∷ s) i d) ≡ false → nearer x y ≡ false
+    head zero k h = h
+    head (suc j) k h = not_nearer-trans x (get_or s j d) y h (all_at y s j d a (omega arith))
 
 -- ---- the same of Pids and hits side by side
 
@@ -76,22 +115,22 @@ last_of_all x s i l e = e ∙ behind x s i l
 abbrev pub at_place : List ℕ → List Hit → ℕ → Ranked
 at_place pids hits i = record { pid = get_or pids i 0; tag = (get_or hits i (record { tag = 0; distance = 0 })).tag; distance = (get_or hits i (record { tag = 0; distance = 0 })).distance }
 
-pub passed_joined : (x : Ranked) (pids : List ℕ) (hits : List Hit) (i : ℕ) → length pids ≡ length hits → i < length hits → nearer x (at_place pids hits i) ≡ false → Belongs x (joined pids hits) i → Belongs x (joined pids hits) (i + 1)
-passed_joined x pids hits i e l after b =
-    let d : Ranked = at_place pids hits i in
-    passed x (joined pids hits) i d (let size = length-joined pids hits e in omega arith) (ap (nearer x) (joined_at i 0 d (record { tag = 0; distance = 0 }) pids hits e l) ∙ after) b
-
-pub found_joined : (x : Ranked) (pids : List ℕ) (hits : List Hit) (i : ℕ) → length pids ≡ length hits → i < length hits → nearer x (at_place pids hits i) ≡ true → Belongs x (joined pids hits) i → ranked x (joined pids hits) ≡ insert (joined pids hits) i x
-found_joined x pids hits i e l before b =
-    let d : Ranked = at_place pids hits i in
-    found x (joined pids hits) i d (let size = length-joined pids hits e in omega arith) (ap (nearer x) (joined_at i 0 d (record { tag = 0; distance = 0 }) pids hits e l) ∙ before) b
-
-pub last_joined : (x : Ranked) (pids : List ℕ) (hits : List Hit) (i : ℕ) → length pids ≡ length hits → length hits ≡ i → Belongs x (joined pids hits) i → ranked x (joined pids hits) ≡ insert (joined pids hits) i x
-last_joined x pids hits i e l b = last_of_all x (joined pids hits) i (length-joined pids hits e ∙ l) b
+pub place_joined : (x : Ranked) (pids : List ℕ) (hits : List Hit) (i : ℕ) → length pids ≡ length hits → IsRanked (joined pids hits) → i ≤ length hits → (i < length hits → nearer x (at_place pids hits i) ≡ true) → ((k : ℕ) → i ≡ suc k → nearer x (at_place pids hits k) ≡ false) → ranked x (joined pids hits) ≡ insert (joined pids hits) i x
+place_joined x pids hits i e r l after before =
+    let size = length-joined pids hits e in
+    let d : Ranked = at_place pids hits 0 in
+    let at : (k : ℕ) → k < length hits → get_or (joined pids hits) k d ≡ at_place pids hits k = λ k within. joined_at k 0 d (record { tag = 0; distance = 0 }) pids hits e within in
+    place_is x (joined pids hits) i d r (omega arith)
+    (λ within. let inside : i < length hits = omega arith in ap (nearer x) (at i inside) ∙ after inside)
+    (λ k is. ap (nearer x) (at k (omega arith)) ∙ before k is)
 
 -- both lists with a point inserted and cut
 pub added : (n i p : ℕ) (h : Hit) (pids : List ℕ) (hits : List Hit) → length pids ≡ length hits → i ≤ length hits → ranked (record { pid = p; tag = h.tag; distance = h.distance }) (joined pids hits) ≡ insert (joined pids hits) i (record { pid = p; tag = h.tag; distance = h.distance }) → joined (take n (insert pids i p)) (take n (insert hits i h)) ≡ with_ranked n (record { pid = p; tag = h.tag; distance = h.distance }) (joined pids hits)
 added n i p h pids hits e l place = sym (take_joined n (insert pids i p) (insert hits i h)) ∙ ap (take n) (sym (place ∙ insert_joined i p h pids hits e l))
+
+pub order_joined : (n i p : ℕ) (h : Hit) (pids : List ℕ) (hits : List Hit) → length pids ≡ length hits → i ≤ length hits → ranked (record { pid = p; tag = h.tag; distance = h.distance }) (joined pids hits) ≡ insert (joined pids hits) i (record { pid = p; tag = h.tag; distance = h.distance }) → IsRanked (joined pids hits) → IsRanked (joined (take n (insert pids i p)) (take n (insert hits i h)))
+order_joined n i p h pids hits e l place r =
+    subst IsRanked (sym (added n i p h pids hits e l place)) (order_take n (ranked (record { pid = p; tag = h.tag; distance = h.distance }) (joined pids hits)) (order_ranked (record { pid = p; tag = h.tag; distance = h.distance }) (joined pids hits) r))
 
 -- ---- points that are added in turn
 
@@ -135,6 +174,25 @@ pub all_ranked : (far tag : ℕ → ℕ) (n : ℕ) (pids more : List ℕ) → Ar
 all_ranked far tag n pids more a =
     all_placed_new far tag n more (in_order far pids) pids (λ z. has_in_order far z pids) a
     ∙ ap (λ t. map (rank far tag) (take n t)) (sym (all_placed-append far [] pids more))
+
+-- Points that are added one by one to none leave the least of them.
+pub ranked_from_none : (far tag : ℕ → ℕ) (n : ℕ) (pids : List ℕ) → AreNew [] pids → with_all n (map (rank far tag) pids) [] ≡ map (rank far tag) (top far n pids)
+ranked_from_none far tag n pids a =
+    ap (λ (t : List ℕ). with_all n (map (rank far tag) pids) (map (rank far tag) t)) (sym (take_all n [] (omega arith)))
+    ∙ all_ranked far tag n [] pids a
+
+-- Pids that differ and aren't there are new.
+pub new_from_distinct : (there more : List ℕ) → IsDistinct eqb more → ((p : ℕ) → has more p ≡ true → has there p ≡ false) → AreNew there more
+new_from_distinct there [] d apart = tt
+new_from_distinct there (p ∷ more) d apart =
+    (apart p (has_here p p more (eq-eqb p p refl)), new_from_distinct (p ∷ there) more (IsDistinct-tail eqb p more d) (λ q h. or_from (eqb q p) (has there q) (other q more (IsDistinct-head eqb p more d) h) (apart q (has_later p q more h))))
+  where
+    other : (q : ℕ) (s : List ℕ) → AllByRecursion (λ y. eqb p y ≡ false) s → has s q ≡ true → eqb q p ≡ false
+    other q [] a h = absurd (false≢true h)
+    other q (y ∷ s) (k, a) h = elim (has_cases y q s h) [
+      | inl e ↦ ne_eqb q p (λ same. both_ways (eqb p y) k (eq-eqb p y (sym same ∙ eqb-true q y e)))
+      | inr m ↦ other q s a m
+    ]
 
 pub with_all-append : (n : ℕ) (xs ys s : List Ranked) → with_all n (xs ++ ys) s ≡ with_all n ys (with_all n xs s)
 with_all-append n [] ys s = refl

@@ -1,14 +1,13 @@
 -- Rounds over a segment with known bytes, one after the other.
-use Rattle.std.proofs.Common.{◌≡◌, ℕ, zero, suc, ◌+◌, ◌-◌, ◌≤◌, ◌<◌, Bool, true, false, cond, not, List, [], ◌∷◌, ◌++◌, refl, sym, ap, ap₂, ◌∙◌, subst, arith, take, filter, length, map, append_assoc, append-nil, add-one, length-append, get_or}
-use Rattle.std.specs.Prelude.{flat_map, min}
+use Rattle.std.proofs.Common.{◌≡◌, ℕ, zero, suc, ◌+◌, ◌≤◌, ◌<◌, Bool, true, false, cond, not, List, [], ◌∷◌, ◌++◌, refl, sym, ap, ◌∙◌, subst, arith, take, length, map, append_assoc, append-nil, add-one, length-append, get_or}
+use Rattle.std.specs.Prelude.{flat_map}
 use Rattle.std.proofs.Math.Seq.{take-suc}
-use Rattle.std.proofs.lemmas.List.{map-append, take_all}
+use Rattle.std.proofs.lemmas.List.{map-append}
 use Rattle.ann_types.specs.Order.{has, all_placed, in_order}
 use Rattle.ann_types.specs.Walk.{Ground, met}
 use Rattle.ann_types.specs.Rounds.{round, rounds_on, rounds_of}
 use Rattle.ann_types.proofs.Ordered.{all_placed-append}
 use Rattle.ann_types.proofs.Walks.{met_grows}
-use Rattle.ann_pool.specs.Pool.{Shown as PoolShown}
 use Rattle.ann_greedy.specs.Shows.{Shows, ShowsWalk}
 use Rattle.ann_vault.specs.Causes.{Rose, next_count}
 use Rattle.ann_beam.specs.Ranking.{Ranked, with_all}

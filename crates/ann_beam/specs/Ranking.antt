@@ -1,5 +1,6 @@
 -- The points that a search has found so far, the nearest first.
-use Rattle.std.specs.Prelude.{ℕ, Bool, List, [], ◌∷◌, ◌||◌, ◌&&◌, ◌==◌, nat_lt, take, if◌then◌else◌}
+use Rattle.std.specs.Prelude.{◌≡◌, ℕ, Bool, false, List, [], ◌∷◌, ◌||◌, ◌&&◌, ◌==◌, nat_lt, take, if◌then◌else◌}
+use Rattle.std.specs.List.{AllByRecursion}
 use Rattle.ann_types.specs.declared.hit.Hit.{Hit}
 
 -- a point: its Pid, the client's name for it, and its exact distance to the query
@@ -16,6 +17,11 @@ pub record Shown : Type 0 where
 -- x stands before y: it is nearer, or as near and of the smaller Pid
 abbrev pub nearer : Ranked → Ranked → Bool
 nearer x y = nat_lt x.distance y.distance || ((x.distance == y.distance) && nat_lt x.pid y.pid)
+
+-- none of the points stands before an earlier one
+abbrev pub IsRanked : List Ranked → Type 0
+IsRanked [] = Unit {0}
+IsRanked (x ∷ xs) = AllByRecursion (λ y. nearer y x ≡ false) xs × IsRanked xs
 
 -- the points with x in its place
 abbrev pub ranked : Ranked → List Ranked → List Ranked

@@ -1,18 +1,16 @@
 -- What a beam sees of the rows of a segment, and what visits leave.
-use Rattle.std.specs.Prelude.{◌≡◌, ◌≢◌, ℕ, ◌+◌, ◌*◌, ◌<◌, Bool, true, not, List, [], ◌++◌, None, map, filter, take, length, slice_range}
+use Rattle.std.specs.Prelude.{◌≡◌, ◌≢◌, ℕ, ◌+◌, ◌*◌, ◌<◌, not, List, ◌++◌, None, filter, take, length, slice_range}
 use Rattle.ann_types.specs.Distance.{distance}
 use Rattle.ann_types.specs.Order.{has}
 use Rattle.ann_types.specs.Walk.{Ground}
-use Rattle.ann_types.specs.Rounds.{round}
 use Rattle.ann_types.specs.declared.params.Params.{Params}
 use Rattle.ann_pool.specs.Pool.{Shown as PoolShown}
-use Rattle.ann_greedy.specs.Shows.{Shows, ShowsWalk}
+use Rattle.ann_greedy.specs.Shows.{Shows}
 use Rattle.ann_pq.specs.Tables.{looked_up}
 use Rattle.ann_block.specs.Node.{NodeFields, node_of, judge_node}
 use Rattle.ann_segment.specs.Directory.{Item, item_of}
 use Rattle.ann_segment.specs.Segment.{SegmentView, node_block}
-use Rattle.ann_beam.specs.Ranking.{Ranked, Shown, with_all}
-use Rattle.ann_beam.specs.Reads.{more_reads}
+use Rattle.ann_beam.specs.Ranking.{Ranked}
 
 -- how far a row is by its code and the tables of a query
 abbrev pub far_row : List (List ℕ) → List Item → ℕ → ℕ

@@ -10,12 +10,7 @@ use ann_segment::Segment;
 use ann_vault::Sealed;
 
 /// Offers a row at its guided distance, unless the pool knows that it was offered before.
-pub(crate) fn offer<S: Sealed>(
-    segment: &Segment<S>,
-    tables: &Tables,
-    guided: &mut Pool,
-    row: u32,
-)
+pub(crate) fn offer<S: Sealed>(segment: &Segment<S>, tables: &Tables, guided: &mut Pool, row: u32)
     requires row { row < length segment.now.items }
     requires code { segment.now.m ≡ length tables.now }
     requires far { AreFar (far_row tables.now segment.now.items) guided.old.items }
@@ -32,12 +27,7 @@ pub(crate) fn offer<S: Sealed>(
 }
 
 /// Meets the neighbours of a visited node.
-pub(crate) fn meet<S: Sealed>(
-    segment: &Segment<S>,
-    tables: &Tables,
-    guided: &mut Pool,
-    node: &Node,
-)
+pub(crate) fn meet<S: Sealed>(segment: &Segment<S>, tables: &Tables, guided: &mut Pool, node: &Node)
     requires inside { All (λ row. row < length segment.now.items) node.now.neighbours }
     requires code { segment.now.m ≡ length tables.now }
     requires far { AreFar (far_row tables.now segment.now.items) guided.old.items }

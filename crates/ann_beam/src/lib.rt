@@ -18,3 +18,6 @@ pub use desk::Desk;
 pub use ranking::Ranking;
 pub use refused::SearchRefused;
 pub use search::beam;
+
+#[cfg(test)]
+mod tests;

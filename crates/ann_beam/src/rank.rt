@@ -10,13 +10,7 @@ use ann_lanes::squared;
 use ann_types::Pid;
 
 /// Ranks a visited point by its exact distance, unless it is deleted.
-pub(crate) fn rank<D: Deleted>(
-    ranking: &mut Ranking,
-    dead: &D,
-    pid: Pid,
-    query: &[u8],
-    node: &Node,
-)
+pub(crate) fn rank<D: Deleted>(ranking: &mut Ranking, dead: &D, pid: Pid, query: &[u8], node: &Node)
     requires width { length query.now ≡ length node.now.vector }
     requires short { length query.now ≤ 1024 }
     ensures limit { ranking.new.limit ≡ ranking.old.limit }

@@ -1,5 +1,5 @@
 ghost use Rattle.std.specs.Prelude.{◌≡◌, ◌≤◌, [], length, map, insert, IfOk, vec_len, vec_capacity};
-ghost use Rattle.ann_beam.specs.Ranking.{hit_of, joined, nearer, ranked, with_ranked};
+ghost use Rattle.ann_beam.specs.Ranking.{IsRanked, hit_of, joined, nearer, ranked, with_ranked};
 
 use ann_types::{Hit, Pid, Tag};
 use std::alloc::{AllocError, Global};
@@ -21,13 +21,13 @@ pub struct Ranking {
 
 impl Model for Ranking {
     ghost use Rattle.std.specs.Prelude.{◌≡◌, ◌≤◌, ◌<◌, vec_len, vec_capacity};
-    ghost use Rattle.ann_beam.specs.Ranking.{Shown, joined};
+    ghost use Rattle.ann_beam.specs.Ranking.{Shown, IsRanked, joined};
 
     ghost Value = { Shown };
 
     ghost view = { λ r. record { limit = r.limit; points = joined r.pids.items r.hits.items } };
 
-    ghost invariant = { λ r. (1 ≤ r.limit) × (r.limit ≤ 1000) × (vec_len r.pids ≡ vec_len r.hits) × (vec_len r.hits ≤ r.limit) × (1000 < vec_capacity r.pids) × (1000 < vec_capacity r.hits) };
+    ghost invariant = { λ r. (1 ≤ r.limit) × (r.limit ≤ 1000) × (vec_len r.pids ≡ vec_len r.hits) × (vec_len r.hits ≤ r.limit) × (1000 < vec_capacity r.pids) × (1000 < vec_capacity r.hits) × IsRanked (joined r.pids.items r.hits.items) };
 }
 
 /// Whether a point stands before another one.
@@ -37,15 +37,17 @@ fn is_before(distance: u32, pid: Pid, other: &Hit, other_pid: Pid) -> bool
     distance < other.distance || (distance == other.distance && pid < other_pid)
 }
 
-/// The place of the first point before which a new one stands, or the number of points.
+/// The place behind the last point that a new one doesn't stand before. It is looked for from the end, where most new
+/// points belong.
 fn place_of(pids: &[Pid], hits: &[Hit], pid: Pid, hit: Hit) -> usize
-    requires { length pids.now ≡ length hits.now }
+    requires both { length pids.now ≡ length hits.now }
+    requires order { IsRanked (joined pids.now hits.now) }
     ensures inside { result ≤ length hits.now }
     ensures place { ranked (record { pid = pid; tag = hit.tag; distance = hit.distance }) (joined pids.now hits.now) ≡ insert (joined pids.now hits.now) result (record { pid = pid; tag = hit.tag; distance = hit.distance }) }
 {
-    let mut place = 0;
-    while place < hits.len() && !is_before(hit.distance, pid, &hits[place], pids[place]) {
-        place += 1;
+    let mut place = hits.len();
+    while place > 0 && is_before(hit.distance, pid, &hits[place - 1], pids[place - 1]) {
+        place -= 1;
     }
     place
 }

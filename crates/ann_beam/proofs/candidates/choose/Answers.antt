@@ -1,10 +1,9 @@
-use Rattle.std.proofs.Common.{◌≡◌, ◌≤◌, ◌<◌, ◌-◌, ℕ, suc, List, length, take, sym, subst, ◌∙◌, arith}
+use Rattle.std.proofs.Common.{◌≡◌, ◌<◌, ◌-◌, length, sym, subst, ◌∙◌, arith}
 use Rattle.std.proofs.lemmas.List.{length-set}
-use Rattle.ann_pool.specs.declared.item.Item.{Item}
-use Rattle.ann_greedy.specs.Shows.{AreFar, AreRows, Shows}
+use Rattle.ann_greedy.specs.Shows.{AreFar, AreRows}
 use Rattle.ann_pool.proofs.Each.{all_marked}
 use Rattle.ann_greedy.proofs.Pooled.{found_item}
-use Rattle.ann_beam.proofs.Choosing.{choosing_more, chosen_all, chosen_full, front_more, all_more}
+use Rattle.ann_beam.proofs.Choosing.{choosing_more, chosen_all, front_more, all_more}
 use Rattle.ann_beam.proofs.candidates.choose.Goals as goal
 
 pub loop-count-preserved : goal.loop-count-preserved

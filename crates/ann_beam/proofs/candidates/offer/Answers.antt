@@ -1,4 +1,4 @@
-use Rattle.std.proofs.Common.{◌≡◌, ◌<◌, ℕ, List, length, sym, ap, ◌∙◌, subst}
+use Rattle.std.proofs.Common.{◌≡◌, ◌<◌, ℕ, length, sym, ap, ◌∙◌, subst}
 use Rattle.ann_pool.specs.Pool.{IsSameWhereThere, fresh, pooled}
 use Rattle.ann_greedy.specs.Shows.{AreFar, AreRows}
 use Rattle.ann_pool.proofs.Each.{all_take, all_offered}

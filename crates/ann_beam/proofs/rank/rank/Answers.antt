@@ -1,4 +1,4 @@
-use Rattle.std.proofs.Common.{◌≡◌, ℕ, Bool, true, false, not, cond, List, [], ◌∷◌, sym, ap, ap₂, ◌∙◌}
+use Rattle.std.proofs.Common.{◌≡◌, ℕ, Bool, true, false, not, cond, [], ◌∷◌, sym, ap, ap₂, ◌∙◌}
 use Rattle.ann_types.specs.Order.{has}
 use Rattle.ann_types.specs.Distance.{distance}
 use Rattle.ann_beam.specs.Ranking.{Ranked, with_all, with_ranked}

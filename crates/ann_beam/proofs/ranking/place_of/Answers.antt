@@ -1,15 +1,12 @@
-use Rattle.std.proofs.Common.{◌∙◌, sym, arith}
-use Rattle.ann_beam.proofs.Rankings.{passed_joined, found_joined, last_joined}
+use Rattle.std.proofs.Common.{◌≡◌, ◌-◌, ℕ, false, sym, subst, ◌∙◌, arith}
+use Rattle.ann_beam.specs.Ranking.{nearer}
+use Rattle.ann_beam.proofs.Rankings.{at_place, place_joined}
 use Rattle.ann_beam.proofs.ranking.place_of.Goals as goal
 
-pub loop-place-preserved : goal.loop-place-preserved
-loop-place-preserved c = record {
-  inside = omega (arith, c.loop-place-test.true);
-  behind = passed_joined _ _ _ _ c.requires c.loop-place-test.true (sym c.is_before.ensures ∙ c.if-not-is_before.true) c.loop-place.invariant.behind;
-}
-
-pub returns-else-not-is_before-clause-place : goal.returns-else-not-is_before-clause-place
-returns-else-not-is_before-clause-place c = found_joined _ _ _ _ c.requires c.loop-place-test.true (sym c.is_before.ensures ∙ c.if-not-is_before.false) c.loop-place.invariant.behind
-
-pub returns-after-loop-place-clause-place : goal.returns-after-loop-place-clause-place
-returns-after-loop-place-clause-place c = last_joined _ _ _ _ c.requires (omega (arith, c.loop-place.invariant.inside, c.loop-place-test.false)) c.loop-place.invariant.behind
+pub returns-else-is_before-clause-place : goal.returns-else-is_before-clause-place
+returns-else-is_before-clause-place c =
+    let pids = c.args.pids.now in
+    let hits = c.args.hits.now in
+    let place : ℕ = c.loop-place.place in
+    place_joined (record { pid = c.args.pid; tag = c.args.hit.tag; distance = c.args.hit.distance }) pids hits place c.requires.both c.requires.order c.loop-place.invariant.inside c.loop-place.invariant.after
+    (λ k is. subst (λ (i : ℕ). nearer (record { pid = c.args.pid; tag = c.args.hit.tag; distance = c.args.hit.distance }) (at_place pids hits i) ≡ false) (let e : place - 1 ≡ k = omega arith in e) (sym c.is_before.ensures ∙ c.if-is_before.false))

@@ -1,4 +1,4 @@
-use Rattle.std.proofs.Common.{◌≡◌, ◌≤◌, ◌<◌, Bool, true, false, ◌∷◌, [], ℕ, suc, List, length, take, refl, sym, ap, subst, ◌∙◌, arith, ltb-true, ltb-false}
+use Rattle.std.proofs.Common.{take, refl, arith, ltb-true, ltb-false}
 use Rattle.std.proofs.lemmas.List.{length-take}
 use Rattle.ann_beam.proofs.Rounding.{round_made}
 use Rattle.ann_beam.proofs.rounds.make_round.Goals as goal

@@ -1,12 +1,10 @@
-use Rattle.std.proofs.Common.{◌≡◌, ◌≤◌, ◌<◌, ◌++◌, ◌∷◌, [], ℕ, zero, suc, List, length, true, false, sym, ap, refl, subst, ◌∙◌, arith}
+use Rattle.std.proofs.Common.{◌++◌, [], ℕ, List, refl, subst, ◌∙◌, arith}
 use Rattle.std.proofs.lemmas.Result.{err_from_is_err_and}
-use Rattle.ann_greedy.specs.Shows.{AreFar, AreRows, ShowsWalk}
+use Rattle.ann_greedy.specs.Shows.{AreFar}
 use Rattle.ann_types.specs.Walk.{Ground}
 use Rattle.ann_types.specs.Rounds.{round}
 use Rattle.ann_greedy.proofs.Pooling.{shows_none}
-use Rattle.ann_beam.specs.Progress.{IsRound}
-use Rattle.ann_beam.specs.Visits.{far_row, ground_in, point_in}
-use Rattle.ann_beam.specs.Desk.{progress}
+use Rattle.ann_beam.specs.Visits.{far_row, ground_in}
 use Rattle.ann_beam.proofs.Rounding.{round_along, way_begins, way_goes_on, way_ends, reads_behind, reads_after}
 use Rattle.ann_beam.proofs.rounds.make_rounds.Goals as goal
 
@@ -35,11 +33,10 @@ loop-turn-preserved g c =
       rows = e.rows;
       under_way = λ tells.
           let way = w.under_way tells in
-          let g' : Ground = ground_in segment (g.S.Sealed.bytes segment.seal) c.args.params.now.d c.args.desk.now.tables c.args.entry in
-          (
+          let g' : Ground = ground_in segment (g.S.Sealed.bytes segment.seal) c.args.params.now.d c.args.desk.now.tables c.args.entry in (
             way.0 ++ round g' c.loop-turn.desk.guided.limit c.args.params.now.w way.0,
             way_goes_on g' _ _ _ _ _ _ _ _ _ _ _ _ way.1 (omega (arith, c.loop-turn-test.true)) w.width
-            (round_along c.args.segment.now (g.S.Sealed.bytes c.args.segment.now.seal) _ _ _ _ _ _ _ _ c.args.entry way.0 _ _ _ _ w.tables w.limit c.if-not-branch.false (e.round tells c.args.entry way.0) way.1.shows),
+                (round_along c.args.segment.now (g.S.Sealed.bytes c.args.segment.now.seal) _ _ _ _ _ _ _ _ c.args.entry way.0 _ _ _ _ w.tables w.limit c.if-not-branch.false (e.round tells c.args.entry way.0) way.1.shows),
           );
       counted = reads_after e.counted.0 w.counted.0 _ _ _ w.counted.1 e.counted.1;
       later = omega (arith, w.later, e.later);

@@ -2,7 +2,7 @@ use Rattle.std.proofs.Common.{◌≡◌, ℕ, List, length, map, sym, ap, ap₂,
 use Rattle.std.proofs.lemmas.Result.{IfOk-weaker, IfErr-weaker}
 use Rattle.ann_types.specs.Graph.{far_from, tag_of}
 use Rattle.ann_types.specs.Merge.{without}
-use Rattle.ann_types.specs.Rounds.{rounds, rounds_of}
+use Rattle.ann_types.specs.Rounds.{rounds}
 use Rattle.ann_vault.specs.Causes.{Rose}
 use Rattle.ann_pool.specs.Pool.{Shown}
 use Rattle.ann_beam.specs.Ranking.{rank, with_all}
