@@ -1,5 +1,5 @@
 -- The Pids of a view, in order of age, as it goes on.
-use Rattle.std.proofs.Common.{◌≡◌, ℕ, suc, ◌+◌, ◌^◌, ◌≤◌, ◌<◌, Bool, true, false, cond, eqb, List, [], ◌∷◌, ◌++◌, refl, sym, ap, ◌∙◌, subst, arith, map, take, drop, length, append_assoc}
+use Rattle.std.proofs.Common.{◌≡◌, ℕ, ◌+◌, ◌<◌, true, false, cond, eqb, List, [], ◌∷◌, ◌++◌, refl, sym, ap, ◌∙◌, subst, arith, take, drop, length, append_assoc}
 use Rattle.std.specs.Prelude.{Option, Some, None, MatchOption, All, flat_map}
 use Rattle.std.specs.List.{AllByRecursion}
 use Rattle.std.specs.List.Sorted.{IsStrictlyIncreasing}
@@ -7,10 +7,10 @@ use Rattle.std.proofs.lemmas.List.{append-nil, take-append-drop}
 use Rattle.std.proofs.lemmas.List.Elements.{All-from_recursion, recursion_from_All}
 use Rattle.ann_types.specs.Graph.{Point, Graph, is_empty, empty_graph, pids_of}
 use Rattle.ann_types.specs.Put.{put}
-use Rattle.ann_types.specs.Fold.{Begun, State, all_points, start, frozen, grown, inserted, deleted, opened, begun_at, switched}
+use Rattle.ann_types.specs.Fold.{Begun, State, all_points, frozen, inserted, deleted, opened, begun_at, switched}
 use Rattle.ann_types.specs.Legal.{pid_end}
 use Rattle.ann_types.specs.declared.params.Params.{Params}
-use Rattle.ann_types.proofs.Sets.{Rises, rises_from_increasing, increasing_from_rises, rises_push, rises_right, all_append, all_left, all_right, all_weaker, all_map, all_of_map}
+use Rattle.ann_types.proofs.Sets.{Rises, rises_from_increasing, increasing_from_rises, rises_push, rises_right, all_append, all_right, all_weaker, all_map, all_of_map}
 use Rattle.ann_types.proofs.Named.{pids_append}
 use Rattle.ann_types.proofs.Graphs.{pids_put}
 use Rattle.ann_segment.specs.Directory.{Item, AreRising}
@@ -55,17 +55,18 @@ begun_inserted params s n tag vector =
 pub pids_begun : (s : State) (at : ℕ) → pids_of (all_points (begun_at s at)) ≡ pids_of (all_points s)
 pids_begun s at = elim (is_empty s.rw) as (λ t. pids_of (all_points (opened (cond t s (frozen s s.rw)) at)) ≡ pids_of (all_points s)) [ true ↦ refl | false ↦ pids_frozen s s.rw ]
 
--- what stays at the end of a merge stands last
-pub pids_ended : (s : State) (o : Option Begun) → (front : List ℕ) × (pids_of (all_points s) ≡ front ++ pids_of (all_points (switched s empty_graph o)))
-pids_ended s None = ([], refl)
-pids_ended s (Some b) =
+-- what stays at the end of a merge stands behind what it takes
+pub pids_taken : (s : State) (b : Begun) → pids_of (all_points s) ≡ pids_of (s.lti.points ++ points_in (take b.frozen s.ros)) ++ pids_of (all_points (switched s empty_graph (Some b)))
+pids_taken s b =
     let taken : List Point = points_in (take b.frozen s.ros) in
-    let rest : List Point = points_in (drop b.frozen s.ros) in (
-      pids_of (s.lti.points ++ taken),
-      ap (λ t. pids_of (s.lti.points ++ t ++ s.rw.points)) (sym (ap points_in (take-append-drop b.frozen s.ros)) ∙ points_append (take b.frozen s.ros) (drop b.frozen s.ros))
-          ∙ ap pids_of (ap (λ t. t ++ s.rw.points) (sym (append_assoc s.lti.points taken rest)) ∙ append_assoc (s.lti.points ++ taken) rest s.rw.points)
-          ∙ pids_append (s.lti.points ++ taken) (rest ++ s.rw.points),
-    )
+    let rest : List Point = points_in (drop b.frozen s.ros) in
+    ap (λ t. pids_of (s.lti.points ++ t ++ s.rw.points)) (sym (ap points_in (take-append-drop b.frozen s.ros)) ∙ points_append (take b.frozen s.ros) (drop b.frozen s.ros))
+    ∙ ap pids_of (ap (λ t. t ++ s.rw.points) (sym (append_assoc s.lti.points taken rest)) ∙ append_assoc (s.lti.points ++ taken) rest s.rw.points)
+    ∙ pids_append (s.lti.points ++ taken) (rest ++ s.rw.points)
+
+pids_ended : (s : State) (o : Option Begun) → (front : List ℕ) × (pids_of (all_points s) ≡ front ++ pids_of (all_points (switched s empty_graph o)))
+pids_ended s None = ([], refl)
+pids_ended s (Some b) = (pids_of (s.lti.points ++ points_in (take b.frozen s.ros)), pids_taken s b)
 
 begun_ended : (s : State) (o : Option Begun) → (P : Begun → Type 0) → s.begun ≡ o → MatchOption (switched s empty_graph o).begun (Unit {0}) P
 begun_ended s None P e = subst (λ (o : Option Begun). MatchOption o (Unit {0}) P) (sym e) tt

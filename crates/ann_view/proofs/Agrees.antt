@@ -1,12 +1,11 @@
 -- A point has the same vector and tag among more points.
-use Rattle.std.proofs.Common.{◌≡◌, ℕ, ◌<◌, Bool, true, false, cond, eqb, List, [], ◌∷◌, ◌++◌, ◌||◌, refl, sym, ap, ◌∙◌, subst, arith, map, inl, inr, eq-eqb}
-use Rattle.std.specs.List.{AllByRecursion, flat_map}
+use Rattle.std.proofs.Common.{◌≡◌, ℕ, true, false, cond, eqb, List, [], ◌∷◌, ◌++◌, refl, sym, ap, ◌∙◌, subst, arith, map, inl, inr, eq-eqb}
 use Rattle.std.proofs.lemmas.Bool.{false≢true, eqb-true, ne_eqb}
 use Rattle.ann_types.specs.Order.{has}
 use Rattle.ann_types.specs.Distance.{distance}
-use Rattle.ann_types.specs.Graph.{Point, Graph, pids_of, vector_of, tag_of, far_from}
-use Rattle.ann_types.proofs.Ordered.{has_append, has_cases, has_here, has_later}
-use Rattle.ann_types.proofs.Sets.{Rises, rises_left, rises_right, rises_across, not_among}
+use Rattle.ann_types.specs.Graph.{Point, pids_of, vector_of, tag_of, far_from}
+use Rattle.ann_types.proofs.Ordered.{has_cases, has_here, has_later}
+use Rattle.ann_types.proofs.Sets.{Rises, rises_across, not_among}
 use Rattle.ann_types.proofs.Named.{pids_append}
 use Rattle.ann_beam.specs.Ranking.{Ranked, rank}
 

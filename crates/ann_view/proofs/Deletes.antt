@@ -1,8 +1,8 @@
 -- The set of deleted points: with one more, and without those that a merge takes out.
-use Rattle.std.proofs.Common.{◌≡◌, ℕ, ◌<◌, Bool, true, false, cond, eqb, ltb, not, List, [], ◌∷◌, ◌++◌, ◌||◌, refl, sym, ap, ◌∙◌, subst, filter, eq-eqb}
+use Rattle.std.proofs.Common.{◌≡◌, ℕ, ◌<◌, true, false, cond, eqb, ltb, not, List, [], ◌∷◌, ◌++◌, ◌||◌, refl, sym, ap, ◌∙◌, eq-eqb}
 use Rattle.std.specs.List.{AllByRecursion}
 use Rattle.std.proofs.lemmas.Bool.{eqb-true, ne_eqb, false≢true}
-use Rattle.ann_types.specs.Order.{has, placed, all_placed, ascending}
+use Rattle.ann_types.specs.Order.{has, placed, ascending}
 use Rattle.ann_types.specs.Merge.{without}
 use Rattle.ann_types.proofs.Ordered.{all_placed-append}
 use Rattle.ann_types.proofs.Sets.{Rises, ascending_rises}

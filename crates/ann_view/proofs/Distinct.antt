@@ -1,12 +1,12 @@
 -- Points that differ.
-use Rattle.std.proofs.Common.{◌≡◌, ℕ, zero, suc, ◌<◌, Bool, true, false, cond, eqb, not, List, [], ◌∷◌, ◌++◌, ◌||◌, refl, sym, ap, ◌∙◌, subst, arith, filter, take, inl, inr, eq-eqb}
+use Rattle.std.proofs.Common.{◌≡◌, ℕ, Bool, true, false, cond, eqb, List, [], ◌∷◌, ◌++◌, ◌||◌, refl, sym, ap, ◌∙◌, subst, arith, filter, inl, inr, eq-eqb}
 use Rattle.std.specs.Prelude.{Option, Some, None}
 use Rattle.std.specs.List.{AllByRecursion, IsDistinct}
-use Rattle.std.proofs.lemmas.Bool.{false≢true, eqb-true, ne_eqb}
+use Rattle.std.proofs.lemmas.Bool.{false≢true, eqb-true}
 use Rattle.ann_types.specs.Order.{has}
 use Rattle.ann_types.specs.Walk.{near, met}
 use Rattle.ann_types.specs.Graph.{Point, Graph, ground, near_from, near_to, visited_from}
-use Rattle.ann_types.proofs.Ordered.{IsAfter, IsRising, rising_top, not_in_rest, has_append, has_cases, has_here, has_later}
+use Rattle.ann_types.proofs.Ordered.{IsRising, rising_top, not_in_rest, has_append, has_cases, has_here, has_later}
 use Rattle.ann_types.proofs.Sets.{Rises, has_filter, not_among, none_from_above}
 use Rattle.ann_beam.proofs.Rankings.{AreNew}
 

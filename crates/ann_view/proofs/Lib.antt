@@ -9,3 +9,4 @@ pub mod Agrees
 pub mod Joined
 pub mod Memories
 pub mod Whole
+pub mod Ending

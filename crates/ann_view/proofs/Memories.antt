@@ -1,11 +1,11 @@
 -- What is in memory are graphs of the index, whatever is applied.
-use Rattle.std.proofs.Common.{◌≡◌, ℕ, ◌<◌, Bool, true, false, cond, eqb, List, [], ◌∷◌, ◌++◌, refl, sym, ap, ◌∙◌, subst, length, take, drop}
-use Rattle.std.specs.Prelude.{Option, Some, None, All}
+use Rattle.std.proofs.Common.{◌≡◌, ℕ, ◌<◌, true, false, cond, eqb, List, [], ◌∷◌, ◌++◌, refl, length, drop}
+use Rattle.std.specs.Prelude.{Option, Some, None}
 use Rattle.std.specs.List.{AllByRecursion}
 use Rattle.std.proofs.lemmas.List.Elements.{All-from_recursion, recursion_from_All}
 use Rattle.ann_types.specs.Graph.{Graph, is_empty, empty_graph, pids_of, IsGraphOf}
 use Rattle.ann_types.specs.Put.{put}
-use Rattle.ann_types.specs.Fold.{Begun, State, start, frozen, grown, inserted, deleted, opened, begun_at, switched}
+use Rattle.ann_types.specs.Fold.{Begun, State, start, frozen, inserted, deleted, opened, begun_at, switched}
 use Rattle.ann_types.specs.declared.params.Params.{Params}
 use Rattle.ann_types.proofs.Sets.{all_append}
 use Rattle.ann_types.proofs.Graphs.{put_graph, empty_is_graph}

@@ -1,16 +1,16 @@
 -- What a walk by rows adds to a result is what the walk by Pids does.
-use Rattle.std.proofs.Common.{◌≡◌, ℕ, zero, suc, ◌+◌, ◌≤◌, ◌<◌, Bool, true, false, cond, eqb, not, List, [], ◌∷◌, ◌++◌, refl, sym, ap, ◌∙◌, subst, arith, map, take, filter, length, get_or, inl, inr}
-use Rattle.std.specs.Prelude.{Option, Some, None}
+use Rattle.std.proofs.Common.{◌≡◌, ℕ, zero, suc, ◌+◌, ◌<◌, Bool, true, false, cond, not, List, [], ◌∷◌, ◌++◌, refl, sym, ap, ◌∙◌, subst, arith, map, take, length, get_or, inl, inr}
+use Rattle.std.specs.Prelude.{Some}
 use Rattle.std.specs.List.{AllByRecursion, flat_map}
 use Rattle.std.proofs.lemmas.Bool.{false≢true, eqb-true}
-use Rattle.std.proofs.lemmas.List.{get_or-map, map-append, take_more, length-map, append-nil}
+use Rattle.std.proofs.lemmas.List.{get_or-map, map-append, take_more, append-nil}
 use Rattle.std.proofs.lemmas.List.Elements.{filter-append}
 use Rattle.std.proofs.lemmas.Grind.{flat_map-append}
 use Rattle.ann_types.specs.Order.{has}
 use Rattle.ann_types.proofs.Ordered.{has_cases}
 use Rattle.ann_types.proofs.Sets.{all_append}
 use Rattle.ann_types.specs.Walk.{Ground}
-use Rattle.ann_types.specs.Graph.{Point, Graph, pids_of, far_from, tag_of, ground, near_to}
+use Rattle.ann_types.specs.Graph.{Point, pids_of, far_from, tag_of, ground, near_to}
 use Rattle.ann_types.specs.Merge.{without}
 use Rattle.ann_types.specs.declared.params.Params.{Params}
 use Rattle.ann_types.proofs.Renamed.{Below, Renames, below_near, below_visited}

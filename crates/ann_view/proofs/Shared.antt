@@ -1,5 +1,5 @@
 -- The first graphs of a list, one at a time.
-use Rattle.std.proofs.Common.{◌≡◌, ℕ, zero, suc, ◌+◌, ◌≤◌, ◌<◌, List, [], ◌∷◌, ◌++◌, refl, sym, ap, ◌∙◌, subst, arith, map, take, drop, length, get_or}
+use Rattle.std.proofs.Common.{◌≡◌, ℕ, zero, suc, ◌+◌, ◌<◌, List, [], ◌∷◌, ◌++◌, refl, sym, ap, ◌∙◌, arith, map, take, drop, length, get_or}
 use Rattle.std.proofs.lemmas.List.{length-map, get_or-map, map-append, take_more, take-map}
 use Rattle.std.proofs.Math.Seq.{take-length}
 

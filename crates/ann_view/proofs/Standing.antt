@@ -1,12 +1,12 @@
 -- A view that stands for a list goes on to stand for the list with one entry more.
-use Rattle.std.proofs.Common.{◌≡◌, ℕ, ◌+◌, Bool, true, false, cond, eqb, List, [], ◌∷◌, ◌++◌, refl, sym, ap, ◌∙◌, subst, arith, length}
+use Rattle.std.proofs.Common.{◌≡◌, ℕ, ◌+◌, true, false, cond, eqb, List, [], ◌∷◌, refl, sym, ap, ◌∙◌, subst, arith, length}
 use Rattle.std.specs.Prelude.{Option, Some, None}
 use Rattle.std.proofs.lemmas.List.{length_push}
 use Rattle.ann_types.specs.Graph.{Graph, is_empty, empty_graph}
 use Rattle.ann_types.specs.Put.{put}
 use Rattle.ann_types.specs.Index.{Index}
 use Rattle.ann_types.specs.Lists.{BasedList, with_entry, length_of, next_pid, pids_at, live_of, makes_point}
-use Rattle.ann_types.specs.Fold.{Begun, State, frozen, grown, inserted, deleted, opened, begun_at, switched, merge_of, step, fold_of}
+use Rattle.ann_types.specs.Fold.{Begun, State, frozen, inserted, deleted, opened, begun_at, switched, merge_of, step, fold_of}
 use Rattle.ann_types.specs.declared.params.Params.{Params}
 use Rattle.ann_types.specs.declared.entry.Entry.{Entry}
 use Rattle.ann_types.specs.declared.entry.Entry.TheVariants.{Insert as InsertEntry, Delete as DeleteEntry, Begin as BeginEntry, End as EndEntry, Replace as ReplaceEntry}

@@ -1,40 +1,36 @@
 -- The results of the graphs in memory and of the long-term graph are one answer.
-use Rattle.std.proofs.Common.{◌≡◌, ℕ, ◌<◌, Bool, true, false, cond, eqb, not, List, [], ◌∷◌, ◌++◌, ◌||◌, refl, sym, ap, ◌∙◌, subst, arith, map, take, filter, length, append_assoc}
-use Rattle.std.specs.Prelude.{Option, Some, None, All}
-use Rattle.std.specs.List.{AllByRecursion, IsDistinct, flat_map}
-use Rattle.std.specs.List.Sorted.{IsStrictlyIncreasing}
-use Rattle.std.proofs.lemmas.Bool.{false≢true}
+use Rattle.std.proofs.Common.{◌≡◌, ℕ, true, not, List, [], ◌∷◌, ◌++◌, refl, sym, ap, ◌∙◌, subst, map, length, append_assoc}
+use Rattle.std.specs.Prelude.{Option, Some, None}
+use Rattle.std.specs.List.{AllByRecursion, flat_map}
 use Rattle.std.proofs.lemmas.List.{map-append}
 use Rattle.std.proofs.lemmas.List.Elements.{filter-append, recursion_from_All}
 use Rattle.ann_types.specs.Order.{has, top}
 use Rattle.ann_types.specs.Codes.{Book, code}
 use Rattle.ann_types.specs.Index.{Index}
 use Rattle.ann_types.specs.Rounds.{rounds}
-use Rattle.ann_types.specs.Graph.{Point, Graph, empty_graph, IsGraph, IsGraphOf, pids_of, tag_of, far_from, near_to}
+use Rattle.ann_types.specs.Graph.{Point, Graph, IsGraphOf, pids_of, tag_of, far_from}
 use Rattle.ann_types.specs.Merge.{without}
-use Rattle.ann_types.specs.Fold.{State, all_points, fold_of}
+use Rattle.ann_types.specs.Fold.{State, all_points}
 use Rattle.ann_types.specs.Lists.{BasedList}
 use Rattle.ann_types.specs.Answer.{found, hit, hits, answer}
 use Rattle.ann_types.specs.declared.ask.Ask.{Ask}
 use Rattle.ann_types.specs.declared.params.Params.{Params}
-use Rattle.ann_types.proofs.Ordered.{has_append}
-use Rattle.ann_types.proofs.Sets.{Rises, rises_left, rises_right, rises_from_increasing, has_filter}
+use Rattle.ann_types.proofs.Sets.{Rises, rises_right, rises_from_increasing, has_filter}
 use Rattle.ann_types.proofs.Named.{pids_append}
-use Rattle.ann_types.proofs.Graphs.{near_inside, wider_left, wider_right, empty_is_graph}
+use Rattle.ann_types.proofs.Graphs.{near_inside, empty_is_graph}
 use Rattle.ann_types.proofs.Rounded.{RoundsWithin, rounds_of_graph}
 use Rattle.ann_segment.specs.Segment.{SegmentView}
-use Rattle.ann_segment.specs.Holds.{Holds}
 use Rattle.ann_beam.specs.Ranking.{Ranked, rank, hit_of, with_all, Shown as RankingShown}
 use Rattle.ann_beam.specs.Reads.{more_reads}
 use Rattle.ann_pq.specs.Codebook.{Shown as BookShown}
 use Rattle.ann_beam.proofs.Rankings.{with_all-append}
-use Rattle.ann_view.specs.Near.{near_points, AreInside}
+use Rattle.ann_view.specs.Near.{AreInside}
 use Rattle.ann_view.specs.Search.{near_memory, ranked_of, near_result, long_points, IsNearOf}
 use Rattle.ann_view.specs.View.{Shown, IsMemory, IsView, index_of, whole, segment_pids, item_pids, pids_in}
 use Rattle.ann_view.specs.Pinned.{PinnedView, pinned}
 use Rattle.ann_view.specs.Stands.{StandsFor, lti_of}
 use Rattle.ann_view.specs.Holding.{HoldsIn, HoldsGraph}
-use Rattle.ann_view.proofs.Distinct.{Distinct, Apart, distinct_append, distinct_filter, distinct_from_each}
+use Rattle.ann_view.proofs.Distinct.{Distinct, distinct_append, distinct_filter, distinct_from_each}
 use Rattle.ann_view.proofs.Agrees.{Agrees, agrees_left, agrees_right, ranks_agree}
 use Rattle.ann_view.proofs.Joined.{near_differ, near_memory_inside, apart_across, ranked_new}
 

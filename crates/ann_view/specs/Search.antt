@@ -1,7 +1,7 @@
 -- What a search of a view leaves on its desk.
-use Rattle.std.specs.Prelude.{◌≡◌, ℕ, List, [], ◌++◌, Option, Some, None, map, flat_map}
+use Rattle.std.specs.Prelude.{◌≡◌, ℕ, List, ◌++◌, Option, Some, None, map, flat_map}
 use Rattle.ann_types.specs.Order.{top}
-use Rattle.ann_types.specs.Graph.{Point, Graph, empty_graph, far_from, tag_of, near_to}
+use Rattle.ann_types.specs.Graph.{Point, Graph, far_from, tag_of, near_to}
 use Rattle.ann_types.specs.Merge.{without}
 use Rattle.ann_types.specs.Fold.{State, all_points}
 use Rattle.ann_types.specs.declared.ask.Ask.{Ask}

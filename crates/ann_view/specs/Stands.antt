@@ -1,5 +1,5 @@
 -- When a view stands for a list of entries, and an operation for an entry.
-use Rattle.std.specs.Prelude.{◌≡◌, ℕ, List, [], ◌∷◌}
+use Rattle.std.specs.Prelude.{◌≡◌, ℕ, [], ◌∷◌}
 use Rattle.ann_types.specs.Lists.{BasedList, length_of, next_pid, pids_at, live_of}
 use Rattle.ann_types.specs.Fold.{fold_of}
 use Rattle.ann_types.specs.Graph.{Graph}

@@ -1,5 +1,5 @@
 -- What each operation makes of a view, and when it may be applied.
-use Rattle.std.specs.Prelude.{◌≡◌, ◌<◌, ◌+◌, ℕ, Bool, true, List, [], ◌∷◌, Option, Some, None, IsSome, All, length}
+use Rattle.std.specs.Prelude.{◌≡◌, ◌<◌, ◌+◌, ℕ, true, List, [], ◌∷◌, Some, None, IsSome, All, length}
 use Rattle.ann_types.specs.Graph.{Point, empty_graph}
 use Rattle.ann_types.specs.Fold.{State, all_points, inserted, deleted, begun_at, switched}
 use Rattle.ann_types.specs.Legal.{pid_end}

@@ -2,7 +2,7 @@
 -- open merge.
 use Rattle.std.specs.Prelude.{◌≡◌, ◌≤◌, ◌<◌, ℕ, List, Option, MatchOption, map, length}
 use Rattle.std.specs.List.{AllByRecursion}
-use Rattle.ann_types.specs.Graph.{Graph, empty_graph}
+use Rattle.ann_types.specs.Graph.{empty_graph}
 use Rattle.ann_types.specs.Fold.{Begun, State}
 use Rattle.ann_types.specs.declared.params.Params.{Params}
 use Rattle.ann_dead.specs.Pids.{IsAscending}

@@ -222,7 +222,7 @@ impl<S: Sealed> View<S> {
         ensures emptied { OnErr result ((result_of desk.new).points ≡ []) }
 
         // Where the lengths differ that is answered, and nothing is read.
-        ensures differ { length ask.now.vector ≢ self.now.params.d → IsErrOf result (Dimension (length ask.now.vector) self.now.params.d) × (E.reads eye.new ≡ E.reads eye.old) }
+        ensures differ { length ask.now.vector ≢ self.now.params.d → IsErrOf result (Dimension (length ask.now.vector) self.now.params.d) × (eye.new ≡ eye.old) }
         ensures refused { length ask.now.vector ≡ self.now.params.d → IfErr result (λ why. (why ≡ Disk) ⊎ ((block : ℕ) × (why ≡ BadSegment block))) }
         ensures disk { IfErr result (λ why. why ≡ Disk → Rose (E.faults eye.old) (E.faults eye.new)) }
         ensures bad { IfErr result (λ why. (block : ℕ) → why ≡ BadSegment block → IsBadIn self.now.segment self.now.params (page_of desk.new) block) }

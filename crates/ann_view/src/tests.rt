@@ -119,20 +119,21 @@ fn insert(view: &mut View<MemorySeal>, alloc: Global, tag: u8) -> Result<(), Fai
     Ok(())
 }
 
-// A view of so many points.
-fn view_of(alloc: Global, params: &Params, count: u8) -> Result<View<MemorySeal>, Fail>
-    requires params { (params.now.d ≡ 1) × (params.now.m ≡ 1) }
+// Fills an empty view with so many points.
+fn fill(view: &mut View<MemorySeal>, alloc: Global, count: u8) -> Result<(), Fail>
     requires few { count ≤ 5 }
-    ensures going { IfOk result (λ view. view.closed ≡ false) }
-    ensures same { IfOk result (λ view. view.params ≡ params.now) }
-    ensures begun { IfOk result (λ view. view.memory.begun ≡ None) }
-    ensures few { IfOk result (λ view. (view.at ≤ 1000) × (view.next ≤ 1000)) }
+    requires going { view.old.closed ≡ false }
+    requires width { view.old.params.d ≡ 1 }
+    requires empty { (view.old.at ≡ 0) × (view.old.next ≡ 0) }
+    ensures going { OnOk result (view.new.closed ≡ false) }
+    ensures same { OnOk result (view.new.params ≡ view.old.params) }
+    ensures begun { OnOk result (view.new.memory.begun ≡ view.old.memory.begun) }
+    ensures few { OnOk result ((view.new.at ≤ 1000) × (view.new.next ≤ 1000)) }
 {
-    let mut view = View::new(alloc, params, codebook(alloc)?)?;
     for tag in 1..=count {
-        insert(&mut view, alloc, tag)?;
+        insert(view, alloc, tag)?;
     }
-    Ok(view)
+    Ok(())
 }
 
 // A merge of both points of a view of two, with a delete of the first while it is open. Before its end it has this many
@@ -158,7 +159,9 @@ fn merge(
 
 // Up to how many points there are and a view with them that is merged or not, what is wanted at which place, at how many
 // entries it is found, and the tags and distances.
-const SEARCHES: [(u32, u8, bool, (u16, u16, u8), u64, &[(u64, u32)]); 2] = [
+type Search = (u32, u8, bool, (u16, u16, u8), u64, &'static [(u64, u32)]);
+
+const SEARCHES: [Search; 2] = [
     // Two frozen graphs of two points, and one point in the graph that takes new ones.
     (
         2,
@@ -172,83 +175,108 @@ const SEARCHES: [(u32, u8, bool, (u16, u16, u8), u64, &[(u64, u32)]); 2] = [
     (100, 2, true, (2, 4, 10), 5, &[(2, 100)]),
 ];
 
-// A view of so many points, merged or not.
-fn made(alloc: Global, params: &Params, count: u8, merges: bool) -> Result<View<MemorySeal>, Fail>
-    requires params { (params.now.d ≡ 1) × (params.now.m ≡ 1) }
-    requires few { count ≤ 5 }
-{
-    let mut view = view_of(alloc, params, count)?;
-    if merges {
-        let segment = segment(alloc, params, view.next())?;
-        if merge(&mut view, segment)? != (1, true) {
-            return Err("another merge".into());
-        }
-    }
-    Ok(view)
-}
-
 // What stands on a desk, as tags and distances.
 fn hits(alloc: Global, desk: &Desk) -> Result<Vec<(u64, u32)>, AllocError> {
     let hits = desk.hits().iter().map(|hit: &Hit| (hit.tag, hit.distance));
     hits.collect(alloc)
 }
 
-// Searches a copy of a view by a pin.
+// What a search by a pin of a view finds: from how many entries.
 fn search_pinned(
     view: &View<MemorySeal>,
     desk: &mut Desk,
     eye: &mut MemoryEye,
     ask: &Ask,
 ) -> Result<u64, Fail> {
-    let copy = view.copy()?;
-    copy.known();
-    copy.near(desk, ask)?;
-    let found = copy.pin()?.disk(desk, eye, ask)?;
+    view.known();
+    view.near(desk, ask)?;
+    let found = view.pin()?.disk(desk, eye, ask)?;
     Ok(found.at)
 }
 
 // Whether a search finds this much from so many entries, and whether the same by a pin does.
-fn finds(
+fn finds_on(
     alloc: Global,
     view: &View<MemorySeal>,
+    desk: &mut Desk,
+    eye: &mut MemoryEye,
     ask: &Ask,
-    at: u64,
-    wanted: &[(u64, u32)],
+    (at, wanted): (u64, &[(u64, u32)]),
 ) -> Result<(bool, bool), Fail> {
-    let mut desk = Desk::new(
-        alloc,
-        &Params::new(1, 2, 10, 1, 1, 1, 1, 1).ok_or("no parameters")?,
-    )?;
-    let mut eye = MemoryEye::new(alloc, &[])?;
-    let found = view.search(&mut desk, &mut eye, ask)?;
-    let first = found.at == at && hits(alloc, &desk)?.as_slice() == wanted;
-    let found = search_pinned(view, &mut desk, &mut eye, ask)?;
+    let found = view.search(desk, eye, ask)?;
+    let first = found.at == at && hits(alloc, desk)?.as_slice() == wanted;
+    let found = search_pinned(view, desk, eye, ask)?;
     Ok((
         first,
-        found == at && hits(alloc, &desk)?.as_slice() == wanted,
+        found == at && hits(alloc, desk)?.as_slice() == wanted,
     ))
+}
+
+// The same with a desk and an eye of its own.
+fn finds(
+    alloc: Global,
+    params: &Params,
+    view: &View<MemorySeal>,
+    ask: &Ask,
+    wanted: (u64, &[(u64, u32)]),
+) -> Result<(bool, bool), Fail> {
+    let mut eye = MemoryEye::new(alloc, &[])?;
+    let mut desk = Desk::new(alloc, params)?;
+    finds_on(alloc, view, &mut desk, &mut eye, ask, wanted)
+}
+
+// Fills an empty view, merges it or not, and searches a copy of it.
+fn fill_and_find(
+    view: &mut View<MemorySeal>,
+    alloc: Global,
+    params: &Params,
+    count: u8,
+    merges: bool,
+    ask: &Ask,
+    wanted: (u64, &[(u64, u32)]),
+) -> Result<(bool, bool), Fail>
+    requires going { view.old.closed ≡ false }
+    requires width { (view.old.params.d ≡ 1) × (view.old.params ≡ params.now) }
+    requires begun { view.old.memory.begun ≡ None }
+    requires empty { (view.old.at ≡ 0) × (view.old.next ≡ 0) }
+{
+    fill(view, alloc, count.min(5))?;
+    if merges {
+        let segment = segment(alloc, params, view.next())?;
+        if merge(view, segment)? != (1, true) {
+            return Err("another merge".into());
+        }
+    }
+    if !view.can_begin() || view.segment()?.is_some() != merges {
+        return Err("another state".into());
+    }
+    let copy = view.copy()?;
+    finds(alloc, params, &copy, ask, wanted)
+}
+
+// Whether a search of the table, and the same by a pin, finds what is wanted.
+fn is_found(alloc: Global, search: Search) -> Result<(bool, bool), Fail> {
+    let (freeze_at, count, merges, (k, l, x), at, wanted) = search;
+    let params = Params::new(1, 2, 10, 1, 1, 1, 1, freeze_at).ok_or("no parameters")?;
+    let ask = Ask::new(k, l, Vector::copy(alloc, &[x])?).ok_or("no ask")?;
+    let mut view = View::new(alloc, &params, codebook(alloc)?)?;
+    fill_and_find(&mut view, alloc, &params, count, merges, &ask, (at, wanted))
 }
 
 #[test]
 fn finds_live_points(rt: HostRuntime) -> Result<(), Fail> {
-    let alloc = rt.alloc();
-    for (freeze_at, count, merges, (k, l, x), at, wanted) in SEARCHES {
-        let params = Params::new(1, 2, 10, 1, 1, 1, 1, freeze_at).ok_or("no parameters")?;
-        let ask = Ask::new(k, l, Vector::copy(alloc, &[x])?).ok_or("no ask")?;
-        let view = made(alloc, &params, count.min(5), merges)?;
-        assert!(rt; view.can_begin() && view.segment()?.is_some() == merges);
-        assert_eq!(rt; finds(alloc, &view, &ask, at, wanted)?, (true, true));
+    for search in SEARCHES {
+        assert_eq!(rt; is_found(rt.alloc(), search)?, (true, true));
     }
     Ok(())
 }
 
-// A view of the segment, whose first point was replaced by one at 12. Nothing can be applied to it any more.
-fn replaced(alloc: Global, params: &Params) -> Result<View<MemorySeal>, Fail>
-    requires params { (params.now.d ≡ 1) × (params.now.m ≡ 1) }
-    ensures same { IfOk result (λ view. view.params ≡ params.now) }
+// Replaces the first point of a view by one at 12, and closes it.
+fn replace_first(view: &mut View<MemorySeal>, alloc: Global) -> Result<(), Fail>
+    requires going { view.old.closed ≡ false }
+    requires width { view.old.params.d ≡ 1 }
+    requires room { (view.old.at ≤ 1000) × (view.old.next ≤ 1000) }
 {
-    let segment = segment(alloc, params, 2)?;
-    let mut view = View::resume(alloc, params, codebook(alloc)?, 4, 2, segment)?;
     let vector = Vector::copy(alloc, &[12])?;
     view.apply(&Op::Replace {
         tag: 1,
@@ -256,7 +284,22 @@ fn replaced(alloc: Global, params: &Params) -> Result<View<MemorySeal>, Fail>
         vector,
     })?;
     view.apply(&Op::Close)?;
-    Ok(view)
+    Ok(())
+}
+
+// A view of the segment, whose first point is replaced.
+fn replace_and_find(
+    view: &mut View<MemorySeal>,
+    alloc: Global,
+    params: &Params,
+    ask: &Ask,
+) -> Result<(bool, bool), Fail>
+    requires going { view.old.closed ≡ false }
+    requires width { view.old.params.d ≡ 1 }
+    requires room { (view.old.at ≤ 1000) × (view.old.next ≤ 1000) }
+{
+    replace_first(view, alloc)?;
+    finds(alloc, params, view, ask, (view.at(), &[(1, 4), (2, 100)]))
 }
 
 #[test]
@@ -264,11 +307,10 @@ fn goes_on_from_a_segment(rt: HostRuntime) -> Result<(), Fail> {
     let alloc = rt.alloc();
     let params = Params::new(1, 2, 10, 1, 1, 1, 1, 100).ok_or("no parameters")?;
     let ask = Ask::new(2, 4, Vector::copy(alloc, &[10])?).ok_or("no ask")?;
-    let view = replaced(alloc, &params)?;
-    assert_eq!(rt; view.next(), 3);
-    assert_eq!(rt;
-        finds(alloc, &view, &ask, 5, &[(1, 4), (2, 100)])?,
-        (true, true)
-    );
+    let segment = segment(alloc, &params, 2)?;
+    let mut view = View::resume(alloc, &params, codebook(alloc)?, 4, 2, segment)?;
+    let found = replace_and_find(&mut view, alloc, &params, &ask)?;
+    assert_eq!(rt; found, (true, true));
+    assert_eq!(rt; view.at(), 5);
     Ok(())
 }

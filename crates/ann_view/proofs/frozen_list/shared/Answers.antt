@@ -1,4 +1,4 @@
-use Rattle.std.proofs.Common.{◌≡◌, ◌<◌, length, take, arith}
+use Rattle.std.proofs.Common.{take, arith}
 use Rattle.std.specs.Arc.{arc_value}
 use Rattle.ann_view.proofs.Shared.{shared_more, shared_all}
 use Rattle.ann_view.proofs.frozen_list.shared.Goals as goal

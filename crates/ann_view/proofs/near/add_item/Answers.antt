@@ -1,4 +1,3 @@
-use Rattle.std.proofs.Common.{[], ◌∷◌}
 use Rattle.ann_beam.specs.Desk.{result_of}
 use Rattle.ann_view.specs.Near.{row_point}
 use Rattle.ann_view.proofs.Nearest.{item_alive, item_dead}

@@ -1,4 +1,4 @@
-use Rattle.std.proofs.Common.{◌≡◌, ◌<◌, ◌∷◌, [], List, false, length, get_or, ap, ◌∙◌, sym, subst}
+use Rattle.std.proofs.Common.{◌≡◌, ◌<◌, ◌∷◌, [], List, false, length, get_or, ap, ◌∙◌, subst}
 use Rattle.ann_pool.specs.Pool.{Shown as PoolShown}
 use Rattle.ann_pool.specs.declared.item.Item.{Item}
 use Rattle.ann_beam.specs.Desk.{result_of}

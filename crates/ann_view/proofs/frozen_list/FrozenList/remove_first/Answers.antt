@@ -1,4 +1,4 @@
-use Rattle.std.proofs.Common.{◌≡◌, ◌<◌, List, length, drop, map, sym, ap, ◌∙◌, arith}
+use Rattle.std.proofs.Common.{drop, map, sym, ap, ◌∙◌, arith}
 use Rattle.std.specs.Arc.{arc_value}
 use Rattle.ann_view.proofs.Shared.{removed_first}
 use Rattle.std.proofs.lemmas.List.{drop-map}

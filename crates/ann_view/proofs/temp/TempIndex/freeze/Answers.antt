@@ -1,4 +1,4 @@
-use Rattle.std.proofs.Common.{◌≡◌, ◌≢◌, ◌++◌, ◌∷◌, [], List, length, sym, ap, ◌∙◌, arith}
+use Rattle.std.proofs.Common.{[], List, ap, ◌∙◌}
 use Rattle.ann_table.specs.Table.{Shown as TableShown}
 use Rattle.ann_frozen.specs.Frozen.{Shown as FrozenShown}
 use Rattle.ann_view.specs.Temp.{state_of}

@@ -1,4 +1,3 @@
-use Rattle.std.proofs.Common.{List}
 use Rattle.std.specs.Prelude.{Result, Ok, Err, IfOk}
 use Rattle.ann_view.proofs.Inserts.{taken_are}
 use Rattle.ann_view.proofs.temp.TempIndex.frozen_of_begin.Goals as goal

@@ -1,4 +1,4 @@
-use Rattle.std.proofs.Common.{◌<◌, sym, ap, ◌∙◌, subst, arith}
+use Rattle.std.proofs.Common.{◌<◌, sym, subst, arith}
 use Rattle.std.specs.Prelude.{All}
 use Rattle.ann_types.specs.Graph.{Point}
 use Rattle.ann_view.specs.Temp.{Temp}

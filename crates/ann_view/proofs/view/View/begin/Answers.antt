@@ -1,7 +1,6 @@
-use Rattle.std.proofs.Common.{◌+◌, ◌∷◌, [], sym, subst}
+use Rattle.std.proofs.Common.{◌+◌, sym, subst}
 use Rattle.ann_view.specs.Temp.{Temp}
-use Rattle.ann_view.specs.View.{Shown, IsView, shown}
-use Rattle.ann_view.specs.Steps.{FitsIn}
+use Rattle.ann_view.specs.View.{IsView, shown}
 use Rattle.ann_view.proofs.Ages.{view_begun}
 use Rattle.ann_view.proofs.view.View.begin.Goals as goal
 

@@ -1,4 +1,4 @@
-use Rattle.std.proofs.Common.{◌+◌, Some, sym, subst, ap, ◌∙◌}
+use Rattle.std.proofs.Common.{◌+◌, Some, sym, subst, ◌∙◌}
 use Rattle.ann_segment.specs.Directory.{AreRising}
 use Rattle.ann_segment.specs.Segment.{SegmentView}
 use Rattle.ann_view.specs.Temp.{Temp}

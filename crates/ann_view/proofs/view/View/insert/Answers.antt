@@ -1,4 +1,4 @@
-use Rattle.std.proofs.Common.{◌+◌, ◌∷◌, [], sym, subst}
+use Rattle.std.proofs.Common.{◌+◌, sym, subst}
 use Rattle.ann_view.specs.Temp.{Temp}
 use Rattle.ann_view.specs.View.{Shown, IsView, shown}
 use Rattle.ann_view.specs.Steps.{FitsIn}

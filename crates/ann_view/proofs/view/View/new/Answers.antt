@@ -1,4 +1,4 @@
-use Rattle.std.proofs.Common.{[], None, false, sym, subst, arith}
+use Rattle.std.proofs.Common.{None, false, sym, subst, arith}
 use Rattle.ann_view.specs.Temp.{Temp}
 use Rattle.ann_view.specs.View.{IsView, shown}
 use Rattle.ann_view.proofs.Memories.{memory_start}

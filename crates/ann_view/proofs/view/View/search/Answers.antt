@@ -1,4 +1,4 @@
-use Rattle.std.proofs.Common.{List, map, sym, subst}
+use Rattle.std.proofs.Common.{List, sym, subst}
 use Rattle.std.specs.Prelude.{Result, Ok, Err, OnOk, All, IsTrue}
 use Rattle.ann_types.specs.Lists.{is_live, live_of}
 use Rattle.ann_types.specs.declared.hit.Hit.{Hit}
