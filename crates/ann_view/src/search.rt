@@ -193,7 +193,7 @@ impl<S: Sealed> View<S> {
         Ok(Found { at: self.at })
     }
 
-    /// Finds the points nearest to a query (Search of FreshDiskANN, section 5.1): `near`, and then `disk`. The hits on the
+    /// Finds the points nearest to a query (Search of FreshDiskANN, section 5.2): `near`, and then `disk`. The hits on the
     /// desk are the answer of every list that the view stands for. Takes no memory.
     ///
     /// # Errors

@@ -190,7 +190,7 @@ fn search_pinned(
 ) -> Result<u64, Fail> {
     view.known();
     view.near(desk, ask)?;
-    let found = view.pin()?.disk(desk, eye, ask)?;
+    let found = shared(view.pin()?).disk(desk, eye, ask)?;
     Ok(found.at)
 }
 
@@ -225,6 +225,13 @@ fn finds(
     finds_on(alloc, view, &mut desk, &mut eye, ask, wanted)
 }
 
+// A value that may go to another thread and be shared by several.
+fn shared<T: Send + Sync>(value: T) -> T
+    ensures { result ≡ value }
+{
+    value
+}
+
 // Fills an empty view, merges it or not, and searches a copy of it.
 fn fill_and_find(
     view: &mut View<MemorySeal>,
@@ -250,7 +257,7 @@ fn fill_and_find(
     if !view.can_begin() || view.segment()?.is_some() != merges {
         return Err("another state".into());
     }
-    let copy = view.copy()?;
+    let copy = shared(view.copy()?);
     finds(alloc, params, &copy, ask, wanted)
 }
 
