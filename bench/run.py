@@ -2,10 +2,11 @@
 """Times the proved program against plain C++ of the same rules, and prints ratios from one run.
 
     bench/run.py FOLDER [POINTS ..]
+    bench/run.py FOLDER log
 
-FOLDER takes the scripts and the programs that are built (some 200 MB). POINTS are the sizes to insert, 10000 where none is
-given. The proved programs are those that `rt run` left in crates/ann_program and crates/ann_bench; where they are not there,
-`rt run` makes them. Both sides are compiled for the same processor, x86-64-v2.
+FOLDER takes the scripts, logs and programs that are made (some 250 MB). POINTS are the sizes to insert, 10000 where none is
+given; with `log` only the opening of a log is timed. The proved programs are those that `rt run` left in crates/ann_program
+and crates/ann_bench; where they are not there, `rt run` makes them. Both sides are compiled for the same processor, x86-64-v2.
 """
 import os
 import subprocess
@@ -16,6 +17,7 @@ TOP = os.path.dirname(HERE)
 D, R, L, ALPHA = "128", "64", "75", "12/10"
 WIDTHS = (10, 50, 100, 200)
 SEARCHES = 5000
+ENTRIES = 300000
 
 
 def built(crate):
@@ -106,11 +108,56 @@ def kernels(folder, points, turns):
         print(f"{mine[0]}: {best[0]:.1f} ns, C++ {best[1]:.1f} ns, ratio {best[0] / best[1]:.2f}", flush=True)
 
 
+def log_files(folder, maker, entries):
+    """A folder with the two files of a log of so many inserts."""
+    path = os.path.join(folder, str(entries))
+    if not os.path.exists(os.path.join(path, "ann2.log")):
+        os.makedirs(path, exist_ok=True)
+        subprocess.run([maker, "make", str(entries), D], cwd=path, check=True)
+    return path
+
+
+def opened(program, path):
+    """The lines of one opening: for each name the nanoseconds, and what was read."""
+    done = subprocess.run([program, "open"], cwd=path, stdout=subprocess.PIPE, stderr=subprocess.STDOUT, check=True)
+    lines = [line.split() for line in done.stdout.decode().splitlines()]
+    return {line[0]: (int(line[1]), line[2:4]) for line in lines if line[0] in ("open", "pass")}
+
+
+def peak(maker, program, path):
+    """The greatest memory of one opening, in bytes."""
+    done = subprocess.run([maker, "peak", program, "open"], cwd=path, stdout=subprocess.PIPE, stderr=subprocess.DEVNULL, check=True)
+    return int(done.stdout) * 1024
+
+
+def log(folder):
+    """Opens a log on both sides: the least time of five runs in turns, and the memory beyond that of opening an empty log."""
+    folder = os.path.join(folder, "log")
+    os.makedirs(folder, exist_ok=True)
+    maker = compiled(folder, "log")
+    programs = (built("ann_bench"), maker)
+    full, empty = (log_files(folder, maker, n) for n in (ENTRIES, 0))
+    runs = [[opened(program, full) for program in programs] for _ in range(5)]
+    for name in ("open", "pass"):
+        if len({str(run[name][1]) for turn in runs for run in turn}) != 1:
+            sys.exit(f"what {name} read differs")
+    best = [min(turn[side]["open"][0] for turn in runs) / 1e6 for side in (0, 1)]
+    print(f"log open {ENTRIES}: {best[0]:.1f} ms, C++ {best[1]:.1f} ms, ratio {best[0] / best[1]:.2f}")
+    room = [min(peak(maker, program, full) - peak(maker, program, empty) for _ in range(5)) for program in programs]
+    print(f"log memory {ENTRIES}: {room[0] / 1e6:.1f} MB, C++ {room[1] / 1e6:.1f} MB, ratio {room[0] / room[1]:.2f}")
+    held = ENTRIES * (int(D) + 13)
+    print(f"log memory of the entries' {held / 1e6:.1f} MB: {room[0] / held:.2f}, C++ {room[1] / held:.2f}", flush=True)
+
+
 def main():
     folder = sys.argv[1]
     os.makedirs(folder, exist_ok=True)
+    if sys.argv[2:] == ["log"]:
+        log(folder)
+        return
     sizes = [int(n) for n in sys.argv[2:]] or [10000]
     kernels(folder, 2000, 40)
+    log(folder)
     maker, theirs, ours = compiled(folder, "vectors"), compiled(folder, "once"), built("ann_program")
     mixed(folder, (ours, theirs), maker, 100000)
     for points in sizes:
