@@ -1,7 +1,8 @@
 // Opening a log in C++, with the checks and the copies of the proved `Log::open`.
 //     log make N D            writes ann.log with N inserts of D components, and an empty ann2.log, into the current folder
-//     log open                opens the log that is there. It prints two lines:
+//     log open                opens the log that is there. It prints three lines:
 //                                 open NANOSECONDS COUNT GENERATION wall NANOSECONDS peak KILOBYTES
+//                                 held KILOBYTES
 //                                 pass NANOSECONDS COUNT SUM
 //     log peak PROGRAM WORD   runs a program with a word, and prints the kilobytes of its greatest memory. (Of what Python
 //                             starts the system counts Python's own memory too.)
@@ -182,6 +183,16 @@ __attribute__((noinline)) static u64 sum_of(const std::vector<Entry> &entries) {
     return sum;
 }
 
+// The kilobytes of the process that are in memory now.
+static long resident() {
+    long kilobytes = 0;
+    FILE *status = fopen("/proc/self/status", "r");
+    char line[256];
+    while (status && fgets(line, sizeof line, status)) sscanf(line, "VmRSS: %ld", &kilobytes);
+    if (status) fclose(status);
+    return kilobytes;
+}
+
 static void time_open() {
     u64 wall = now(CLOCK_MONOTONIC), busy = now(CLOCK_THREAD_CPUTIME_ID);
     Log log = open_log();
@@ -190,6 +201,7 @@ static void time_open() {
     getrusage(RUSAGE_SELF, &usage);
     u64 count = log.entries.size();
     printf("open %lu %lu %lu wall %lu peak %ld\n", busy, count, log.preamble.generation, wall, usage.ru_maxrss);
+    printf("held %ld\n", resident());
     busy = now(CLOCK_THREAD_CPUTIME_ID);
     u64 sum = sum_of(log.entries);
     printf("pass %lu %lu %lu\n", now(CLOCK_THREAD_CPUTIME_ID) - busy, count, sum);

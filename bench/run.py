@@ -117,36 +117,31 @@ def log_files(folder, maker, entries):
     return path
 
 
-def opened(program, path):
-    """The lines of one opening: for each name the nanoseconds, and what was read."""
-    done = subprocess.run([program, "open"], cwd=path, stdout=subprocess.PIPE, stderr=subprocess.STDOUT, check=True)
-    lines = [line.split() for line in done.stdout.decode().splitlines()]
-    return {line[0]: (int(line[1]), line[2:4]) for line in lines if line[0] in ("open", "pass")}
-
-
-def peak(maker, program, path):
-    """The greatest memory of one opening, in bytes."""
-    done = subprocess.run([maker, "peak", program, "open"], cwd=path, stdout=subprocess.PIPE, stderr=subprocess.DEVNULL, check=True)
-    return int(done.stdout) * 1024
+def opened(maker, program, path):
+    """Of one opening the lines, by their names, and the bytes that it held at most and when it was done."""
+    done = subprocess.run([maker, "peak", program, "open"], cwd=path, stdout=subprocess.PIPE, stderr=subprocess.PIPE, check=True)
+    lines = {line.split()[0]: line.split()[1:] for line in done.stderr.decode().splitlines()}
+    return lines, int(done.stdout) * 1024, int(lines["held"][0]) * 1024
 
 
 def log(folder):
-    """Opens a log on both sides: the least time of five runs in turns, and the memory beyond that of opening an empty log."""
+    """Opens a log on both sides, five times in turns: the least time, and the memory beyond that of opening an empty log."""
     folder = os.path.join(folder, "log")
     os.makedirs(folder, exist_ok=True)
     maker = compiled(folder, "log")
     programs = (built("ann_bench"), maker)
     full, empty = (log_files(folder, maker, n) for n in (ENTRIES, 0))
-    runs = [[opened(program, full) for program in programs] for _ in range(5)]
-    for name in ("open", "pass"):
-        if len({str(run[name][1]) for turn in runs for run in turn}) != 1:
-            sys.exit(f"what {name} read differs")
-    best = [min(turn[side]["open"][0] for turn in runs) / 1e6 for side in (0, 1)]
+    runs = [[(opened(maker, program, full), opened(maker, program, empty)) for program in programs] for _ in range(5)]
+    told = {str([run[0]["open"][1:3], run[0]["pass"][1:3]]) for turn in runs for run, _ in turn}
+    if len(told) != 1:
+        sys.exit(f"what was read differs: {told}")
+    best = [min(int(turn[side][0][0]["open"][0]) for turn in runs) / 1e6 for side in (0, 1)]
     print(f"log open {ENTRIES}: {best[0]:.1f} ms, C++ {best[1]:.1f} ms, ratio {best[0] / best[1]:.2f}")
-    room = [min(peak(maker, program, full) - peak(maker, program, empty) for _ in range(5)) for program in programs]
-    print(f"log memory {ENTRIES}: {room[0] / 1e6:.1f} MB, C++ {room[1] / 1e6:.1f} MB, ratio {room[0] / room[1]:.2f}")
-    held = ENTRIES * (int(D) + 13)
-    print(f"log memory of the entries' {held / 1e6:.1f} MB: {room[0] / held:.2f}, C++ {room[1] / held:.2f}", flush=True)
+    entries = ENTRIES * (int(D) + 13)
+    for name, place in (("at most", 1), ("held", 2)):
+        room = [min(run[place] - base[place] for run, base in (turn[side] for turn in runs)) for side in (0, 1)]
+        print(f"log memory {name}: {room[0] / 1e6:.1f} MB, C++ {room[1] / 1e6:.1f} MB, ratio {room[0] / room[1]:.2f}; "
+              f"of the entries' {entries / 1e6:.1f} MB {room[0] / entries:.2f}, C++ {room[1] / entries:.2f}", flush=True)
 
 
 def main():

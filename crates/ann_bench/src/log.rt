@@ -2,8 +2,8 @@ use crate::report::report;
 use ann_disk::DiskFile;
 use ann_log::{Files, Log, OpenRefused};
 use ann_types::{Entry, Vector};
-use std::io;
 use std::time::CpuClock;
+use std::{fs, io};
 
 /// The sum of a vector's components.
 fn sum_of(vector: &Vector) -> u64 {
@@ -25,8 +25,20 @@ fn pass(entries: &[Entry]) -> u64 {
     sum
 }
 
-/// Opens the log in the current folder, and passes over its entries. Where it isn't opened, the reason is told and the
-/// call fails.
+/// Writes how many kilobytes of the process are in memory now, where the system tells it.
+fn report_held(rt: &HostRuntime) -> io::Result<()> {
+    let status = fs::read_to_string(rt, "/proc/self/status")?;
+    for line in status.lines() {
+        if let Some(held) = line.strip_prefix("VmRSS:") {
+            let kilobytes = held.trim_end_matches("kB").trim();
+            eprintln!(rt; "held {kilobytes}")?;
+        }
+    }
+    Ok(())
+}
+
+/// Opens the log in the current folder, tells the memory that it holds, and passes over its entries. Where it isn't opened,
+/// the reason is told and the call fails.
 pub(crate) fn time_log(rt: &HostRuntime) -> io::Result<()> {
     let files = Files {
         first: DiskFile::new(*rt, "ann.log"),
@@ -37,6 +49,7 @@ pub(crate) fn time_log(rt: &HostRuntime) -> io::Result<()> {
         Ok((log, entries)) => {
             let count = entries.items().len() as u64;
             report(rt, "open", start, count, log.generation())?;
+            report_held(rt)?;
             let start = rt.thread_cpu_time()?;
             let sum = pass(entries.items());
             report(rt, "pass", start, count, sum)

@@ -2,8 +2,9 @@
 //!
 //! `ann_bench POINTS TURNS` builds a graph of so many points, and takes each timed loop so many times. The times go to
 //! standard error, a line each: a name, nanoseconds of the processor, how often it was done, and a sum of what came out,
-//! by which a program in another language can be compared. `ann_bench open` opens the log in the current folder, and
-//! passes over its entries; it makes empty files where there are none. Standard output is always the same line.
+//! by which a program in another language can be compared. `ann_bench open` opens the log in the current folder, tells the
+//! kilobytes that are then in memory in a line of their own (`held KILOBYTES`), and passes over its entries; it makes empty
+//! files where there are none. Standard output is always the same line.
 #![tactic(auto)]
 
 mod blocks;
