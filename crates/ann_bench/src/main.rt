@@ -1,4 +1,4 @@
-//! Times the kernels of the index on generated vectors.
+//! Times the kernels of the index on generated vectors, and the opening of a log.
 //!
 //! `ann_bench POINTS TURNS` builds a graph of so many points, and takes each timed loop so many times. The times go to
 //! standard error, a line each: a name, nanoseconds of the processor, how often it was done, and a sum of what came out,
