@@ -2,10 +2,11 @@
 """Times the proved program against plain C++ of the same rules, and prints ratios from one run.
 
     bench/run.py FOLDER [POINTS ..]
+    bench/run.py FOLDER log
 
-FOLDER takes the scripts and the programs that are built (some 200 MB). POINTS are the sizes to insert, 10000 where none is
-given. The proved programs are those that `rt run` left in crates/ann_program and crates/ann_bench; where they are not there,
-`rt run` makes them. Both sides are compiled for the same processor, x86-64-v2.
+FOLDER takes the scripts, logs and programs that are made (some 250 MB). POINTS are the sizes to insert, 10000 where none is
+given; with `log` only the opening of a log is timed. The proved programs are those that `rt run` left in crates/ann_program
+and crates/ann_bench; where they are not there, `rt run` makes them. Both sides are compiled for the same processor, x86-64-v2.
 """
 import os
 import subprocess
@@ -16,6 +17,7 @@ TOP = os.path.dirname(HERE)
 D, R, L, ALPHA = "128", "64", "75", "12/10"
 WIDTHS = (10, 50, 100, 200)
 SEARCHES = 5000
+ENTRIES = 300000
 
 
 def built(crate):
@@ -106,11 +108,51 @@ def kernels(folder, points, turns):
         print(f"{mine[0]}: {best[0]:.1f} ns, C++ {best[1]:.1f} ns, ratio {best[0] / best[1]:.2f}", flush=True)
 
 
+def log_files(folder, maker, entries):
+    """A folder with the two files of a log of so many inserts."""
+    path = os.path.join(folder, str(entries))
+    if not os.path.exists(os.path.join(path, "ann2.log")):
+        os.makedirs(path, exist_ok=True)
+        subprocess.run([maker, "make", str(entries), D], cwd=path, check=True)
+    return path
+
+
+def opened(maker, program, path):
+    """Of one opening the lines, by their names, and the bytes that it held at most and when it was done."""
+    done = subprocess.run([maker, "peak", program, "open"], cwd=path, stdout=subprocess.PIPE, stderr=subprocess.PIPE, check=True)
+    lines = {line.split()[0]: line.split()[1:] for line in done.stderr.decode().splitlines()}
+    return lines, int(done.stdout) * 1024, int(lines["held"][0]) * 1024
+
+
+def log(folder):
+    """Opens a log on both sides, five times in turns: the least time, and the memory beyond that of opening an empty log."""
+    folder = os.path.join(folder, "log")
+    os.makedirs(folder, exist_ok=True)
+    maker = compiled(folder, "log")
+    programs = (built("ann_bench"), maker)
+    full, empty = (log_files(folder, maker, n) for n in (ENTRIES, 0))
+    runs = [[(opened(maker, program, full), opened(maker, program, empty)) for program in programs] for _ in range(5)]
+    told = {str([run[0]["open"][1:3], run[0]["pass"][1:3]]) for turn in runs for run, _ in turn}
+    if len(told) != 1:
+        sys.exit(f"what was read differs: {told}")
+    best = [min(int(turn[side][0][0]["open"][0]) for turn in runs) / 1e6 for side in (0, 1)]
+    print(f"log open {ENTRIES}: {best[0]:.1f} ms, C++ {best[1]:.1f} ms, ratio {best[0] / best[1]:.2f}")
+    entries = ENTRIES * (int(D) + 13)
+    for name, place in (("at most", 1), ("held", 2)):
+        room = [min(run[place] - base[place] for run, base in (turn[side] for turn in runs)) for side in (0, 1)]
+        print(f"log memory {name}: {room[0] / 1e6:.1f} MB, C++ {room[1] / 1e6:.1f} MB, ratio {room[0] / room[1]:.2f}; "
+              f"of the entries' {entries / 1e6:.1f} MB {room[0] / entries:.2f}, C++ {room[1] / entries:.2f}", flush=True)
+
+
 def main():
     folder = sys.argv[1]
     os.makedirs(folder, exist_ok=True)
+    if sys.argv[2:] == ["log"]:
+        log(folder)
+        return
     sizes = [int(n) for n in sys.argv[2:]] or [10000]
     kernels(folder, 2000, 40)
+    log(folder)
     maker, theirs, ours = compiled(folder, "vectors"), compiled(folder, "once"), built("ann_program")
     mixed(folder, (ours, theirs), maker, 100000)
     for points in sizes:

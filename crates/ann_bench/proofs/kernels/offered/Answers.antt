@@ -1,8 +1,7 @@
-use Rattle.std.proofs.Common.{◌≡◌, ◌<◌, ◌+◌, sym, subst, arith}
+use Rattle.std.proofs.Common.{◌<◌, ◌+◌, sym, subst, arith}
 use Rattle.std.specs.List.{AllByRecursion}
 use Rattle.ann_types.proofs.Sets.{all_weaker}
 use Rattle.ann_pool.specs.declared.item.Item.{Item}
-use Rattle.ann_pool.specs.Pool.{offered as offered_item, fresh}
 use Rattle.ann_pool.proofs.Each.{all_offered, all_take}
 use Rattle.ann_bench.proofs.kernels.offered.Goals as goal
 
