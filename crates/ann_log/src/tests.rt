@@ -90,7 +90,7 @@ fn without(bytes: &[u8], cut: usize) -> &[u8] {
 }
 
 // Whether two files with these bytes are found to hold this, both when they are opened and when they are looked into.
-// Opening cuts off the first file's last bytes, so many, and else both calls leave the files as they were.
+// Opening cuts off the last bytes of the first file, so many; but for that both calls leave the files as they were.
 fn answers(
     alloc: Global,
     first: &[u8],
@@ -109,7 +109,7 @@ fn answers(
     )
 }
 
-// The generation of each version's file, which is 32 bytes shorter in version 1, where generation and base aren't there.
+// A file of version 1 has neither a generation nor a base. So it is 32 bytes shorter, and its generation is 0.
 #[test]
 fn both_versions_are_read(rt: HostRuntime) -> Result<(), Fail> {
     let alloc = rt.alloc();
@@ -127,8 +127,9 @@ fn both_versions_are_read(rt: HostRuntime) -> Result<(), Fail> {
     Ok(())
 }
 
-// A place among the fields of either version, its byte, and whether the file is still a log. The other bytes that R, l_build,
-// a, w and freeze_at may have stand last; b is at most a, which is 1, and d and m are those of the codebook.
+// A place among the fields that both versions have, another byte for it, and whether the file is still a log. In the last
+// six rows R, l_build, a, w or freeze_at is another one within its limits. No other b is, for it is at most a, which is 1;
+// nor d or m, which the codebook names too.
 const FIELDS: [(usize, u8, bool); 36] = [
     (0, 0, false),
     (0, 0x7f, false),
@@ -168,8 +169,8 @@ const FIELDS: [(usize, u8, bool); 36] = [
     (25, 101, true),
 ];
 
-// Places behind them in version 2: the generation, the base's position, segment and next Pid, and the codebook. Any
-// generation but 0 may stand there, and any centroid.
+// The other magic, and the places behind those fields in version 2: the generation, the base's position, segment and next
+// Pid, and the codebook. Another generation than 0 may stand there, and another centroid.
 const FIELDS_TWO: [(usize, u8, bool); 19] = [
     (8, 49, false),
     (29, 0, false),
@@ -192,7 +193,7 @@ const FIELDS_TWO: [(usize, u8, bool); 19] = [
     (73, 9, true),
 ];
 
-// With a base whose position is 11, whose segment is 19 and whose next Pid is 7. Any next Pid below 2^32 may stand there.
+// With a base of position 11, segment 19 and next Pid 7. Another next Pid below 2^32 may stand there.
 const FIELDS_BASED: [(usize, u8, bool); 9] = [
     (37, 0, false),
     (37, 12, false),
@@ -205,7 +206,7 @@ const FIELDS_BASED: [(usize, u8, bool); 9] = [
     (56, 0xff, true),
 ];
 
-// The codebook of version 1.
+// The other magic, and the codebook of version 1. Another centroid may stand there.
 const FIELDS_ONE: [(usize, u8, bool); 8] = [
     (8, 50, false),
     (29, 66, false),
@@ -217,7 +218,7 @@ const FIELDS_ONE: [(usize, u8, bool); 8] = [
     (41, 9, true),
 ];
 
-// The first row of a table whose file isn't found to be what the row says, or else none.
+// The first row of a table of fields that is answered otherwise.
 fn wrong_row(
     alloc: Global,
     front: &[u8],
@@ -245,7 +246,7 @@ fn a_changed_field_is_no_index(rt: HostRuntime) -> Result<(), Fail> {
     Ok(())
 }
 
-// The file ends before its first gate, within the frame, or before the gate behind the frame.
+// The file ends before its first gate, within the frame, or before the gate behind it.
 #[test]
 fn a_cut_file_is_refused(rt: HostRuntime) -> Result<(), Fail> {
     let alloc = rt.alloc();
@@ -263,8 +264,9 @@ fn a_cut_file_is_refused(rt: HostRuntime) -> Result<(), Fail> {
     Ok(())
 }
 
-// A place from the first gate on, its byte, what is found then, and how many bytes opening cuts off. An Insert takes 15
-// bytes and a Delete or an End 13, so that two are left over, a Begin 5; a Replace takes 15 too.
+// A place counted from the first gate, another byte for it, what is found then, and how many bytes opening cuts off. An
+// Insert and a Replace fill the 15 bytes of the frame; a Delete, an End and a Begin are shorter, and no whole entry is
+// behind them.
 const FRAMES: [(usize, u8, Outcome, usize); 18] = [
     (20, 0x00, Ok(1), 0),
     (20, 0x7f, Ok(1), 0),
@@ -370,9 +372,9 @@ fn reopened(alloc: Global, files: &Files<MemoryFile>, chooser: u64) -> Result<Ou
     Ok(found)
 }
 
-// The calls of the first file and of the second that fail while a log is opened behind whose last gate three bytes stand,
-// and how many bytes are cut off then. Opening takes three calls of each file, and two of the first for its cut. A cut that
-// fails takes the half of the bytes, rounded down.
+// Three bytes stand behind the last gate of a log. The calls of its first file and of the second that fail while it is
+// opened, 0 for none, and how many bytes are cut off then. Opening takes three calls of each file, and two of the first
+// for the cut. A cut that fails takes half of the bytes, rounded down.
 const OPENING: [(u64, u64, usize); 9] = [
     (0, 0, 3),
     (1, 0, 0),
@@ -401,6 +403,19 @@ fn a_failing_call_of_opening_keeps_the_log(rt: HostRuntime) -> Result<(), Fail> 
             let found = reopened(alloc, &left, chooser)?;
             assert_eq!(rt; found, Ok(1), "{first} {second} {chooser}");
         }
+    }
+    Ok(())
+}
+
+#[test]
+fn a_failing_call_of_looking_into_changes_nothing(rt: HostRuntime) -> Result<(), Fail> {
+    let alloc = rt.alloc();
+    let bytes = text(alloc, &FRONT_TWO, &FRAME)?;
+    for (first, second) in [(1, 0), (2, 0), (0, 1), (0, 2)] {
+        let mut looked_into = failing_files(alloc, &bytes, first, second)?;
+        let found = inspected(alloc, &mut looked_into);
+        assert_eq!(rt; found, Err(OpenWhy::Disk), "{first} {second}");
+        assert!(rt; have(&looked_into, &bytes, &[]), "{first} {second}");
     }
     Ok(())
 }
