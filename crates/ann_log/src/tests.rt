@@ -128,8 +128,8 @@ fn both_versions_are_read(rt: HostRuntime) -> Result<(), Fail> {
 }
 
 // A place among the fields that both versions have, another byte for it, and whether the file is still a log. In the last
-// six rows R, l_build, a, w or freeze_at is another one within its limits. No other b is, for it is at most a, which is 1;
-// nor d or m, which the codebook names too.
+// six rows R, l_build, a, w or freeze_at is another one within its limits. There is no other b, which is at most a, and a
+// is 1. There is no other d or m, which the codebook has too.
 const FIELDS: [(usize, u8, bool); 36] = [
     (0, 0, false),
     (0, 0x7f, false),
