@@ -1,5 +1,5 @@
 -- Pids and hits side by side, and the place of a point among them.
-use Rattle.std.proofs.Common.{◌≡◌, ℕ, zero, suc, ◌≤◌, ◌<◌, Bool, true, false, cond, eqb, List, [], ◌∷◌, ◌++◌, ◌||◌, refl, sym, ap, ◌∙◌, subst, arith, take, map, length, get_or, inl, inr, eqb-true, eq-eqb}
+use Rattle.std.proofs.Common.{◌≡◌, ℕ, zero, suc, ◌≤◌, ◌<◌, ◌+◌, Bool, true, false, cond, eqb, List, [], ◌∷◌, ◌++◌, ◌||◌, refl, sym, ap, ◌∙◌, subst, arith, take, map, length, get_or, inl, inr, eqb-true, eq-eqb}
 use Rattle.std.specs.Prelude.{insert}
 use Rattle.std.specs.List.{AllByRecursion, IsDistinct}
 use Rattle.std.proofs.lemmas.Map.Keys.{IsDistinct-head, IsDistinct-tail}
@@ -123,6 +123,35 @@ place_joined x pids hits i e r l after before =
     place_is x (joined pids hits) i d r (omega arith)
     (λ within. let inside : i < length hits = omega arith in ap (nearer x) (at i inside) ∙ after inside)
     (λ k is. ap (nearer x) (at k (omega arith)) ∙ before k is)
+
+-- ---- a point beyond the last one
+
+insert_last : {A : Type 0} (s : List A) (x : A) → take (length s) (insert s (length s) x) ≡ s
+insert_last [] x = refl
+insert_last (y ∷ s) x = ap (λ t. y ∷ t) (insert_last s x)
+
+not_nearer : (x y : Ranked) → y.distance < x.distance → nearer x y ≡ false
+not_nearer x y less = false_from_ne_true (nearer x y) (λ h. beyond (before_tells (as_item x) (as_item y) h))
+  where
+    beyond : Precedes (as_item x) (as_item y) → ⊥
+    beyond (inl first) = absurd (omega (arith, first, less))
+    beyond (inr (same, next)) = absurd (omega (arith, same, less))
+
+hit_at : (hits : List Hit) (i : ℕ) (d other : Hit) → i < length hits → get_or hits i d ≡ get_or hits i other
+hit_at [] i d other l = absurd (omega arith)
+hit_at (h ∷ hits) zero d other l = refl
+hit_at (h ∷ hits) (suc i) d other l = hit_at hits i d other (omega arith)
+
+-- changes nothing where there is no room behind that one
+pub beyond_joined : (n : ℕ) (x : Ranked) (h : Hit) (pids : List ℕ) (hits : List Hit) (last : ℕ) → length pids ≡ length hits → IsRanked (joined pids hits) → length hits ≡ n → n ≡ last + 1 → h ≡ get_or hits last h → h.distance < x.distance → with_ranked n x (joined pids hits) ≡ joined pids hits
+beyond_joined n x h pids hits last e r full is at near =
+    let size = length-joined pids hits e in
+    let nothing : Hit = record { tag = 0; distance = 0 } in
+    let less : (get_or hits last nothing).distance < x.distance = subst (λ (g : Hit). g.distance < x.distance) (at ∙ hit_at hits last h nothing (omega arith)) near in
+    ap (take n) (place_joined x pids hits (length hits) e r (omega arith) (λ within. absurd (omega arith)) (λ k behind. not_nearer x (at_place pids hits k) (let same : k ≡ last = omega (arith, behind, full, is) in subst (λ (i : ℕ). (get_or hits i (record { tag = 0; distance = 0 })).distance < x.distance) (sym same) less)))
+    ∙ ap (λ m. take m (insert (joined pids hits) (length hits) x)) (sym full)
+    ∙ ap (λ m. take m (insert (joined pids hits) m x)) (sym size)
+    ∙ insert_last (joined pids hits) x
 
 -- both lists with a point inserted and cut
 pub added : (n i p : ℕ) (h : Hit) (pids : List ℕ) (hits : List Hit) → length pids ≡ length hits → i ≤ length hits → ranked (record { pid = p; tag = h.tag; distance = h.distance }) (joined pids hits) ≡ insert (joined pids hits) i (record { pid = p; tag = h.tag; distance = h.distance }) → joined (take n (insert pids i p)) (take n (insert hits i h)) ≡ with_ranked n (record { pid = p; tag = h.tag; distance = h.distance }) (joined pids hits)

@@ -1,4 +1,4 @@
-ghost use Rattle.std.specs.Prelude.{◌≡◌, ◌≤◌, [], length, map, IfOk};
+ghost use Rattle.std.specs.Prelude.{◌≡◌, ◌≤◌, [], ℕ, true, length, map, IfOk};
 ghost use Rattle.ann_beam.specs.Ranking.{hit_of, with_ranked};
 
 use crate::ranking::Ranking;
@@ -57,6 +57,13 @@ impl Desk {
         ensures page { page_of self.new ≡ page_of self.old }
     {
         self.ranking.add(pid, tag, distance);
+    }
+
+    /// Whether a point this far away would change nothing, since the result has as many points as it may and all are nearer.
+    pub fn is_beyond(&self, distance: u32) -> bool
+        ensures { result ≡ true → (pid tag : ℕ) → with_ranked (result_of self.now).limit (record { pid = pid; tag = tag; distance = distance }) (result_of self.now).points ≡ (result_of self.now).points }
+    {
+        self.ranking.is_beyond(distance)
     }
 
     /// The result, in order of distance and Pid.

@@ -1,4 +1,4 @@
-ghost use Rattle.std.specs.Prelude.{◌≡◌, ◌≤◌, [], length, map, insert, IfOk, vec_len, vec_capacity};
+ghost use Rattle.std.specs.Prelude.{◌≡◌, ◌≤◌, [], ℕ, true, length, map, insert, IfOk, vec_len, vec_capacity};
 ghost use Rattle.ann_beam.specs.Ranking.{IsRanked, hit_of, joined, nearer, ranked, with_ranked};
 
 use ann_types::{Hit, Pid, Tag};
@@ -85,6 +85,15 @@ impl Ranking {
         let _ = self.hits.insert(place, hit);
         self.pids.truncate(usize::from(self.limit));
         self.hits.truncate(usize::from(self.limit));
+    }
+
+    /// Whether a point this far away would change nothing, since there are as many points as there may be and all are
+    /// nearer.
+    pub fn is_beyond(&self, distance: u32) -> bool
+        ensures { result ≡ true → (pid tag : ℕ) → with_ranked self.now.limit (record { pid = pid; tag = tag; distance = distance }) self.now.points ≡ self.now.points }
+    {
+        let count = self.hits.len();
+        count == usize::from(self.limit) && self.hits[count - 1].distance < distance
     }
 
     /// The points as a search tells them, the nearest first.

@@ -42,6 +42,9 @@ pub item_dead : (limit : ℕ) (dead : List ℕ) (x : Ranked) (pid : ℕ) (is_dea
 item_dead limit dead x pid is_dead old asked there same =
     ap (λ t. with_all limit (cond (not t) (x ∷ []) []) old) (sym (sym (has_same dead x.pid) ∙ ap (dead_has dead) (sym same) ∙ sym asked ∙ there))
 
+pub item_beyond : (limit : ℕ) (dead : List ℕ) (x : Ranked) (old : List Ranked) → with_ranked limit x old ≡ old → old ≡ with_all limit (alive dead (x ∷ [])) old
+item_beyond limit dead x old same = elim (has dead x.pid) as (λ t. old ≡ with_all limit (cond (not t) (x ∷ []) []) old) [ true ↦ refl | false ↦ sym same ]
+
 -- ---- points one at a time
 
 pub items_more : (limit : ℕ) (dead : List ℕ) (f : Item → Ranked) (items : List Item) (place : ℕ) (item other : Item) (init old new : List Ranked) → place < length items → item ≡ get_or items place other → old ≡ with_all limit (alive dead (map f (take place items))) init → new ≡ with_all limit (alive dead (f item ∷ [])) old → new ≡ with_all limit (alive dead (map f (take (place + 1) items))) init

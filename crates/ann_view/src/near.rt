@@ -84,6 +84,10 @@ fn add_item<G: Named>(graph: &G, dead: &Dead, desk: &mut Desk, item: Item)
     ensures points { (result_of desk.new).points ≡ with_all (result_of desk.old).limit (alive dead.now (row_point (G.nodes graph.now) item ∷ [])) (result_of desk.old).points }
     ensures pool { desk.new.pool ≡ desk.old.pool }
 {
+    // A point that is too far away needs no look at its Pid.
+    if desk.is_beyond(item.distance) {
+        return;
+    }
     let pid = graph.pid(item.number);
     if !dead.contains(pid) {
         desk.add(pid, graph.tag(item.number), item.distance);

@@ -1,6 +1,6 @@
 use Rattle.ann_beam.specs.Desk.{result_of}
 use Rattle.ann_view.specs.Near.{row_point}
-use Rattle.ann_view.proofs.Nearest.{item_alive, item_dead}
+use Rattle.ann_view.proofs.Nearest.{item_alive, item_beyond, item_dead}
 use Rattle.ann_view.proofs.near.add_item.Goals as goal
 
 pub returns-then-not-contains-clause-points : goal.returns-then-not-contains-clause-points
@@ -10,3 +10,7 @@ returns-then-not-contains-clause-points g c =
 pub returns-else-not-contains-clause-points : goal.returns-else-not-contains-clause-points
 returns-else-not-contains-clause-points g c =
     item_dead (result_of c.args.desk.now).limit c.args.dead.now (row_point (g.G.Named.nodes c.args.graph.now) c.args.item) c.pid-pid.result c.contains.result (result_of c.args.desk.now).points c.contains.ensures c.if-not-contains.false c.pid-pid.ensures
+
+pub returns-then-is_beyond-clause-points : goal.returns-then-is_beyond-clause-points
+returns-then-is_beyond-clause-points g c =
+    item_beyond (result_of c.args.desk.now).limit c.args.dead.now (row_point (g.G.Named.nodes c.args.graph.now) c.args.item) (result_of c.args.desk.now).points (c.is_beyond.ensures c.if-is_beyond.true (row_point (g.G.Named.nodes c.args.graph.now) c.args.item).pid (row_point (g.G.Named.nodes c.args.graph.now) c.args.item).tag)
