@@ -5,10 +5,12 @@
     bench/run.py FOLDER log
 
 FOLDER takes the scripts, logs and programs that are made (some 250 MB). POINTS are the sizes to insert, 10000 where none is
-given; with `log` only the opening of a log is timed. The proved programs are those that `rt run` left in crates/ann_program
-and crates/ann_bench; where they are not there, `rt run` makes them. Both sides are compiled for the same processor, x86-64-v2.
+given; with `log` only the opening of a log is timed. The proved program `ann_program` is the one that `rt run` left in its
+crate, and `ann_bench` is made in FOLDER/repository, beside a copy of the crates; where one is not there, `rt run` proves and
+makes it. Both sides are compiled for the same processor, x86-64-v2.
 """
 import os
+import shutil
 import subprocess
 import sys
 
@@ -18,17 +20,40 @@ D, R, L, ALPHA = "128", "64", "75", "12/10"
 WIDTHS = (10, 50, 100, 200)
 SEARCHES = 5000
 ENTRIES = 300000
+# The line of crates.txt for the program that times the kernels.
+BENCH = "ann_bench: ann_types ann_lanes ann_pool ann_greedy ann_table ann_insert ann_bytes ann_pq ann_block ann_log ann_disk"
 
 
-def built(crate):
-    """The program that the kit built of a crate."""
-    folder = os.path.join(TOP, "crates", crate)
-    path = os.path.join(folder, "out", crate)
+def built(crate, *words):
+    """The program that the kit built of a crate, which lies in this folder; with these words it ends at once."""
+    path = os.path.join(crate, "out", os.path.basename(crate))
     if not os.path.exists(path):
-        words = open(os.path.join(folder, "args")).read().split()
-        stdin = open(os.path.join(folder, "stdin"))
-        subprocess.run(["rt", "run", "--", *words], cwd=folder, stdin=stdin, stdout=subprocess.DEVNULL, check=True)
+        run = ["rt", "run", "--", *words]
+        subprocess.run(run, cwd=crate, stdin=subprocess.DEVNULL, stdout=subprocess.DEVNULL, check=True)
     return path
+
+
+def index_program():
+    """The program itself."""
+    return built(os.path.join(TOP, "crates", "ann_program"), "once", "2", "2", "4", "1/1")
+
+
+def timing_program(folder):
+    """The program that times the kernels, made in a copy of the crates. Its sources end in .txt here, so that the gate takes
+    them for no crate."""
+    there = os.path.join(folder, "repository")
+    crate = os.path.join(there, "crates", "ann_bench")
+    if not os.path.exists(crate):
+        left_out = shutil.ignore_patterns("out")
+        shutil.copytree(os.path.join(TOP, "crates"), os.path.join(there, "crates"), ignore=left_out)
+        shutil.copy(os.path.join(TOP, "HANDLES"), there)
+        with open(os.path.join(there, "crates.txt"), "w") as out:
+            out.write(open(os.path.join(TOP, "crates.txt")).read() + BENCH + "\n")
+        shutil.copytree(os.path.join(HERE, "ann_bench"), crate)
+        for path, _, names in os.walk(crate):
+            for name in names:
+                os.rename(os.path.join(path, name), os.path.join(path, name.removesuffix(".txt")))
+    return built(crate, "40", "1")
 
 
 def compiled(folder, name, *flags):
@@ -95,7 +120,7 @@ def mixed(folder, programs, maker, commands):
 
 def kernels(folder, points, turns):
     """The timed loops of both sides: for each the least time of five runs in turns."""
-    programs = (built("ann_bench"), compiled(folder, "kernels"))
+    programs = (timing_program(folder), compiled(folder, "kernels"))
     runs = []
     for _ in range(5):
         ours = subprocess.run([programs[0], str(points), str(turns)], stderr=subprocess.PIPE, stdout=subprocess.DEVNULL, check=True).stderr
@@ -126,10 +151,11 @@ def opened(maker, program, path):
 
 def log(folder):
     """Opens a log on both sides, five times in turns: the least time, and the memory beyond that of opening an empty log."""
+    program = timing_program(folder)
     folder = os.path.join(folder, "log")
     os.makedirs(folder, exist_ok=True)
     maker = compiled(folder, "log")
-    programs = (built("ann_bench"), maker)
+    programs = (program, maker)
     full, empty = (log_files(folder, maker, n) for n in (ENTRIES, 0))
     runs = [[(opened(maker, program, full), opened(maker, program, empty)) for program in programs] for _ in range(5)]
     told = {str([run[0]["open"][1:3], run[0]["pass"][1:3]]) for turn in runs for run, _ in turn}
@@ -145,7 +171,7 @@ def log(folder):
 
 
 def main():
-    folder = sys.argv[1]
+    folder = os.path.abspath(sys.argv[1])
     os.makedirs(folder, exist_ok=True)
     if sys.argv[2:] == ["log"]:
         log(folder)
@@ -153,7 +179,7 @@ def main():
     sizes = [int(n) for n in sys.argv[2:]] or [10000]
     kernels(folder, 2000, 40)
     log(folder)
-    maker, theirs, ours = compiled(folder, "vectors"), compiled(folder, "once"), built("ann_program")
+    maker, theirs, ours = compiled(folder, "vectors"), compiled(folder, "once"), index_program()
     mixed(folder, (ours, theirs), maker, 100000)
     for points in sizes:
         for kind in ("close", "even"):

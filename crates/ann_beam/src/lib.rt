@@ -18,6 +18,3 @@ pub use desk::Desk;
 pub use ranking::Ranking;
 pub use refused::SearchRefused;
 pub use search::beam;
-
-#[cfg(test)]
-mod tests;

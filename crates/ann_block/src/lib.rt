@@ -10,8 +10,6 @@ mod header;
 mod neighbours;
 mod node;
 mod refused;
-#[cfg(test)]
-mod tests;
 
 pub use header::{Header, read_header, write_header};
 pub use node::{Node, read_node, write_node};

@@ -7,8 +7,6 @@
 
 mod get;
 mod put;
-#[cfg(test)]
-mod tests;
 
 pub use get::{Short, get_u16, get_u32, get_u64};
 pub use put::{put_u16, put_u32, put_u64};

@@ -10,6 +10,3 @@ mod claims;
 mod rule;
 
 pub use claims::{Claimer, Claims};
-
-#[cfg(test)]
-mod tests;

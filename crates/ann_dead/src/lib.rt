@@ -16,6 +16,3 @@ mod run;
 pub use dead::Dead;
 pub use deleted::Deleted;
 pub use pin::DeadPin;
-
-#[cfg(test)]
-mod tests;

@@ -11,8 +11,6 @@ mod file;
 mod memory;
 mod stretch;
 mod synced;
-#[cfg(test)]
-mod tests;
 
 pub use disk::DiskFile;
 pub use file::{Failed, LogFile};

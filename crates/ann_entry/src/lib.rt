@@ -9,8 +9,6 @@
 mod entry_refused;
 mod kind;
 mod reading;
-#[cfg(test)]
-mod tests;
 mod writing;
 
 pub use entry_refused::EntryRefused;

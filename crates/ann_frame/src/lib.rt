@@ -11,8 +11,6 @@
 mod entries;
 mod frames_refused;
 mod reading;
-#[cfg(test)]
-mod tests;
 mod writing;
 
 pub use entries::Entries;

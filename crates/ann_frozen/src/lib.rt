@@ -7,7 +7,5 @@
 mod frozen;
 mod label;
 mod packed;
-#[cfg(test)]
-mod tests;
 
 pub use frozen::Frozen;

@@ -10,6 +10,3 @@ mod greedy;
 
 pub use graph::Graph;
 pub use greedy::{walk, walk_visited};
-
-#[cfg(test)]
-mod tests;

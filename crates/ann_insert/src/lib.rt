@@ -11,6 +11,3 @@ mod scratch;
 
 pub use insert::put;
 pub use scratch::PutScratch;
-
-#[cfg(test)]
-mod tests;

@@ -17,8 +17,6 @@ mod refused;
 mod renew;
 mod room;
 mod storing;
-#[cfg(test)]
-mod tests;
 
 pub use ann_frame::Entries;
 pub use ann_preamble::Base;

@@ -10,6 +10,3 @@ mod pool;
 
 pub use item::Item;
 pub use pool::Pool;
-
-#[cfg(test)]
-mod tests;

@@ -11,8 +11,6 @@ mod codebook;
 mod least;
 mod refused;
 mod tables;
-#[cfg(test)]
-mod tests;
 mod turned;
 
 pub use codebook::Codebook;

@@ -10,8 +10,6 @@ mod base;
 mod choice;
 mod fields;
 mod preamble;
-#[cfg(test)]
-mod tests;
 mod writing;
 
 pub use base::Base;

@@ -1,4 +1,3 @@
 pub mod Gathered
 pub mod Rows
 pub mod Newer
-pub mod Grid

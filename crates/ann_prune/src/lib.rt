@@ -11,6 +11,3 @@ mod robust;
 pub use candidates::Candidates;
 pub use metric::Metric;
 pub use robust::{prune, prune_newer};
-
-#[cfg(test)]
-mod tests;

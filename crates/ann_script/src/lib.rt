@@ -24,8 +24,6 @@ mod script;
 mod script_refused;
 mod sink;
 mod source;
-#[cfg(test)]
-mod tests;
 mod transcript;
 mod words;
 

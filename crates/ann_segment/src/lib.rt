@@ -11,8 +11,6 @@ mod fields;
 mod opening;
 mod refused;
 mod segment;
-#[cfg(test)]
-mod tests;
 mod writer;
 
 pub use directory::Directory;

@@ -9,8 +9,6 @@ mod label;
 mod links;
 mod room;
 mod table;
-#[cfg(test)]
-mod tests;
 mod vectors;
 
 pub use table::Table;

@@ -5,7 +5,5 @@
 #![tactic(auto)]
 
 mod tags;
-#[cfg(test)]
-mod tests;
 
 pub use tags::Tags;

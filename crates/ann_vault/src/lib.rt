@@ -15,8 +15,6 @@ mod folder_eye;
 mod memory;
 mod memory_eye;
 mod sealed;
-#[cfg(test)]
-mod tests;
 mod vault;
 
 pub use calls::Failed;

@@ -14,8 +14,6 @@ mod open_merge;
 mod pinned;
 mod search;
 mod temp;
-#[cfg(test)]
-mod tests;
 mod view;
 
 pub use op::Op;

@@ -1,0 +1,9 @@
+//! Tests of the log and of its files: changed and cut files, calls that fail, and what a stop at each call leaves.
+//!
+//! They stand in a crate of their own, since a check of a crate's tests proves the whole crate once more.
+#![tactic(auto)]
+
+#[cfg(test)]
+mod disk;
+#[cfg(test)]
+mod log;
