@@ -1,6 +1,7 @@
 use ann_block::BlockRefused::{Degree, Length, Magic, Number, Order, Padding, Shape};
 use ann_block::{BlockRefused, Header, read_header, read_node, write_header, write_node};
 use ann_types::Params;
+use std::test::Fail;
 
 // The header of the segment 13 of two points, and the block of the second one: Pid 2 in row 1, linked to row 0.
 const HEADER: Header = Header {
@@ -50,13 +51,13 @@ fn node_refused(params: &Params, first: (usize, u8), second: (usize, u8)) -> Opt
 fn blocks_are_written_as_in_the_format(rt: HostRuntime) {
     let mut block = [9; 4096];
     write_header(&HEADER, &mut block);
-    assert_eq!(rt; block.as_slice(), block_of(&HEADER_FRONT).as_slice());
+    let header = block == block_of(&HEADER_FRONT);
     write_node(2, 3, &[0x1e], &[0], &mut block);
-    assert_eq!(rt; block.as_slice(), block_of(&NODE_FRONT).as_slice());
+    assert!(rt; header && block == block_of(&NODE_FRONT));
 }
 
-#[test]
-fn headers_with_changed_bytes(rt: HostRuntime) {
+// The first pair of changed bytes of a header for which it is refused otherwise.
+fn wrong_header() -> Option<((usize, u8), (usize, u8))> {
     let ok = (31, 0);
     for (first, second, wanted) in [
         ((0, 0x61), ok, Magic),
@@ -76,16 +77,22 @@ fn headers_with_changed_bytes(rt: HostRuntime) {
         ((4095, 1), ok, Padding),
     ] {
         let block = changed(block_of(&HEADER_FRONT), first, second);
-        assert_eq!(rt; read_header(&block), Err(wanted), "{first:?} {second:?}");
+        if read_header(&block) != Err(wanted) {
+            return Some((first, second));
+        }
     }
-    let block = block_of(&HEADER_FRONT);
-    assert_eq!(rt; read_header(&block), Ok(HEADER));
-    assert_eq!(rt; read_header(&[0; 4095]), Err(Length));
+    None
 }
 
 #[test]
-fn nodes_with_changed_bytes(rt: HostRuntime) {
-    let params = Params::new(1, 2, 10, 12, 10, 1, 1, 100).expect(&rt, "limits");
+fn headers_with_changed_bytes(rt: HostRuntime) {
+    assert_eq!(rt; wrong_header(), None);
+    let whole = read_header(&block_of(&HEADER_FRONT));
+    assert!(rt; whole == Ok(HEADER) && read_header(&[0; 4095]) == Err(Length));
+}
+
+// The first pair of changed bytes of a node for which it is refused otherwise.
+fn wrong_node(params: &Params) -> Option<((usize, u8), (usize, u8))> {
     let ok = (31, 0);
     for (first, second, wanted) in [
         (ok, ok, None),
@@ -99,26 +106,33 @@ fn nodes_with_changed_bytes(rt: HostRuntime) {
         ((21, 1), ok, Some(Padding)),
         ((4095, 1), ok, Some(Padding)),
     ] {
-        assert_eq!(rt;
-            node_refused(&params, first, second),
-            wanted,
-            "{first:?} {second:?}"
-        );
+        if node_refused(params, first, second) != wanted {
+            return Some((first, second));
+        }
     }
+    None
+}
+
+// The parameters of an index of one component, with R of two and a code of one byte.
+fn params() -> Result<Params, Fail> {
+    Ok(Params::new(1, 2, 10, 12, 10, 1, 1, 100).ok_or("limits")?)
 }
 
 #[test]
-fn a_node_is_read_again(rt: HostRuntime) {
+fn nodes_with_changed_bytes(rt: HostRuntime) -> Result<(), Fail> {
+    assert_eq!(rt; wrong_node(&params()?), None);
+    Ok(())
+}
+
+#[test]
+fn a_node_is_read_again(rt: HostRuntime) -> Result<(), Fail> {
+    let params = params()?;
     let mut block = [9; 4096];
     write_node(7, u64::MAX, &[255], &[0, 70_000], &mut block);
-    let params = Params::new(1, 2, 10, 12, 10, 1, 1, 100).expect(&rt, "limits");
-    assert_eq!(rt;
-        read_node(&[0; 4097], 7, 300, 70_001, &params).err(),
-        Some(Length)
-    );
-    let node = read_node(&block, 7, 300, 70_001, &params).expect(&rt, "a node");
-    assert_eq!(rt; node.tag(), u64::MAX);
-    assert_eq!(rt; node.vector(), [255].as_slice());
-    assert!(rt; node.degree() == 2);
+    let refused = read_node(&[0; 4097], 7, 300, 70_001, &params).err();
+    let node = read_node(&block, 7, 300, 70_001, &params)?;
+    let front = node.tag() == u64::MAX && node.vector() == [255].as_slice();
+    assert!(rt; refused == Some(Length) && front && node.degree() == 2);
     assert_eq!(rt; (node.neighbour(0), node.neighbour(1)), (0, 70_000));
+    Ok(())
 }

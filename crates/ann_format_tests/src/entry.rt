@@ -1,6 +1,6 @@
 use ann_entry::{EntryRefused, decode, encode, size};
 use ann_types::{Entry, Vector};
-use std::alloc::Global;
+use std::alloc::{AllocError, Global};
 use std::test::Fail;
 
 // The place behind an entry, and the entry at place 1 among other bytes, for each kind of entry.
@@ -46,10 +46,9 @@ fn again(alloc: Global, bytes: &[u8], out: &mut [u8]) -> Outcome {
     }
 }
 
-#[test]
-fn entries_are_written(rt: HostRuntime) -> Result<(), Fail> {
-    let alloc = rt.alloc();
-    let entries = [
+// The entries of the lines.
+fn entries(alloc: Global) -> Result<[Entry; 5], AllocError> {
+    Ok([
         Entry::Insert {
             by: 0,
             tag: 7,
@@ -66,34 +65,51 @@ fn entries_are_written(rt: HostRuntime) -> Result<(), Fail> {
             tag: 7,
             vector: Vector::copy(alloc, &[3, 4])?,
         },
-    ];
-    for (entry, (behind, line)) in entries.iter().zip(LINES) {
+    ])
+}
+
+// The first of these entries that isn't written as its line.
+fn wrong_entry(entries: &[Entry]) -> Option<usize> {
+    for (number, (entry, (behind, line))) in entries.iter().zip(LINES).enumerate() {
         let mut out = [9; 17];
-        assert_eq!(rt; put(entry, &mut out), behind);
-        assert_eq!(rt; out, line);
+        if put(entry, &mut out) != behind || out != line {
+            return Some(number);
+        }
     }
+    None
+}
+
+#[test]
+fn entries_are_written(rt: HostRuntime) -> Result<(), Fail> {
+    let entries = entries(rt.alloc())?;
+    assert_eq!(rt; wrong_entry(&entries), None);
     Ok(())
 }
 
-// Each byte of an entry but the first may be any, and belongs to a field that is written again.
-#[test]
-fn entries_are_read(rt: HostRuntime) {
+// Each byte of an entry but the first may be any, and belongs to a field that is written again: the first line and place
+// where this isn't so.
+fn wrong_byte(alloc: Global) -> Option<(usize, usize)> {
     for (behind, line) in LINES {
         for place in 2..17 {
             let mut bytes = line;
             bytes[place] = 0xff;
             let mut out = line;
-            assert_eq!(rt;
-                again(rt.alloc(), &bytes, &mut out),
-                Outcome::Behind(behind)
-            );
-            assert!(rt; (out == bytes) == (place < behind));
+            let outcome = again(alloc, &bytes, &mut out);
+            if outcome != Outcome::Behind(behind) || (out == bytes) != (place < behind) {
+                return Some((behind, place));
+            }
         }
     }
+    None
 }
 
 #[test]
-fn a_cut_entry_is_short(rt: HostRuntime) {
+fn entries_are_read(rt: HostRuntime) {
+    assert_eq!(rt; wrong_byte(rt.alloc()), None);
+}
+
+// The first line and length at which a cut entry isn't short, or a whole one is.
+fn wrong_cut(alloc: Global) -> Option<(usize, usize)> {
     for (behind, line) in LINES {
         for end in 0..17 {
             let wanted = if end < behind {
@@ -102,21 +118,33 @@ fn a_cut_entry_is_short(rt: HostRuntime) {
                 Outcome::Behind(behind)
             };
             let mut out = [0; 17];
-            assert_eq!(rt; again(rt.alloc(), &line[..end], &mut out), wanted);
+            if again(alloc, &line[..end], &mut out) != wanted {
+                return Some((behind, end));
+            }
         }
     }
+    None
+}
+
+#[test]
+fn a_cut_entry_is_short(rt: HostRuntime) {
+    assert_eq!(rt; wrong_cut(rt.alloc()), None);
+}
+
+// The first kind that is none of an entry and isn't refused.
+fn wrong_kind(alloc: Global) -> Option<u8> {
+    for kind in [0, 6, 255] {
+        let mut out = [0; 17];
+        if again(alloc, &[9, kind], &mut out) != Outcome::Kind {
+            return Some(kind);
+        }
+    }
+    None
 }
 
 #[test]
 fn other_kinds_are_refused(rt: HostRuntime) {
-    let alloc = rt.alloc();
-    let mut out = [0; 17];
-    assert_eq!(rt; again(alloc, &[9, 0], &mut out), Outcome::Kind);
-    assert_eq!(rt; again(alloc, &[9, 6], &mut out), Outcome::Kind);
-    assert_eq!(rt;
-        again(alloc, &[9, 255, 0, 0, 0, 0], &mut out),
-        Outcome::Kind
-    );
-    assert!(rt; matches!(decode(alloc, &[1], usize::MAX, 2), Err(EntryRefused::Short)));
-    assert_eq!(rt; size(&Entry::Begin { by: 0 }), 5);
+    let far = decode(rt.alloc(), &[1], usize::MAX, 2);
+    assert!(rt; matches!(far, Err(EntryRefused::Short)) && size(&Entry::Begin { by: 0 }) == 5);
+    assert_eq!(rt; wrong_kind(rt.alloc()), None);
 }

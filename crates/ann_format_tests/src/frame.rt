@@ -33,12 +33,10 @@ fn found_from(alloc: Global, bytes: &[u8], gate: usize) -> Outcome {
     }
 }
 
-#[test]
-fn frames_are_read(rt: HostRuntime) {
-    let alloc = rt.alloc();
-    assert_eq!(rt; found_from(alloc, &TWO, 0), Outcome::Entries(3, 25));
-    assert_eq!(rt; found_from(alloc, &TWO, 15), Outcome::Entries(1, 25));
+// The first place at which another byte stands for something else than it should.
+fn wrong_place(alloc: Global) -> Option<usize> {
     for (place, byte, wanted) in [
+        (0, 1, Outcome::Entries(3, 25)),
         (0, 0x7f, Outcome::Entries(0, 0)),
         (15, 0x7f, Outcome::Entries(2, 15)),
         (25, 0x7f, Outcome::Entries(3, 25)),
@@ -56,18 +54,32 @@ fn frames_are_read(rt: HostRuntime) {
         if let Some(old) = bytes.get_mut(place) {
             *old = byte;
         }
-        assert_eq!(rt; found_from(alloc, &bytes, 0), wanted, "{place}");
+        if found_from(alloc, &bytes, 0) != wanted {
+            return Some(place);
+        }
     }
+    None
+}
+
+#[test]
+fn frames_are_read(rt: HostRuntime) {
+    assert_eq!(rt; wrong_place(rt.alloc()), None);
+    assert_eq!(rt; found_from(rt.alloc(), &TWO, 15), Outcome::Entries(1, 25));
+}
+
+// The first length at which the entry at fault is another one.
+fn wrong_cut(alloc: Global) -> Option<usize> {
+    for (end, entry) in CUT.iter().enumerate().skip(1) {
+        if found_from(alloc, &TWO[..end], 0) != Outcome::Bad(*entry) {
+            return Some(end);
+        }
+    }
+    None
 }
 
 #[test]
 fn a_cut_is_bad(rt: HostRuntime) {
-    for end in 1..26 {
-        assert_eq!(rt;
-            found_from(rt.alloc(), &TWO[..end], 0),
-            Outcome::Bad(CUT[end])
-        );
-    }
+    assert_eq!(rt; wrong_cut(rt.alloc()), None);
 }
 
 #[test]
@@ -81,13 +93,10 @@ fn a_frame_is_written(rt: HostRuntime) -> Result<(), Fail> {
         vector: Vector::copy(alloc, &[7, 8])?,
     })?;
     let mut out = [9; 27];
-    assert_eq!(rt; write_frame(entries.items(), &mut out), 25);
-    assert_eq!(rt;
-        out,
-        [
-            20, 0, 0, 0, 3, 4, 3, 2, 1, 1, 5, 0, 0, 0, 6, 0, 0, 0, 0, 0, 0, 0, 7, 8, 0, 9, 9
-        ]
-    );
-    assert_eq!(rt; frame_size(2), 965);
+    let size = write_frame(entries.items(), &mut out);
+    let wanted = [
+        20, 0, 0, 0, 3, 4, 3, 2, 1, 1, 5, 0, 0, 0, 6, 0, 0, 0, 0, 0, 0, 0, 7, 8, 0, 9, 9,
+    ];
+    assert!(rt; size == 25 && out == wanted && frame_size(2) == 965);
     Ok(())
 }

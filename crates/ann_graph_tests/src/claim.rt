@@ -30,11 +30,11 @@ fn two_claimers_draw_three_numbers(rt: HostRuntime) -> Result<(), Fail> {
     let first = claims.draw(&mut claimers[0]);
     let second = claims.draw(&mut claimers[1]);
     let third = claims.draw(&mut claimers[0]);
-    assert!(rt; first == Some(0) && second == Some(1) && third == Some(2));
     let fourth = claims.draw(&mut claimers[0]);
     let fifth = claims.draw(&mut claimers[1]);
     assert!(rt; fourth == None && fifth == None);
     claims.close(claimers);
+    assert!(rt; first == Some(0) && second == Some(1) && third == Some(2));
     Ok(())
 }
 
@@ -44,6 +44,24 @@ fn no_number_is_drawn_below_zero(rt: HostRuntime) -> Result<(), Fail> {
     assert!(rt; claims.draw(&mut claimers[0]) == None);
     claims.close(claimers);
     Ok(())
+}
+
+// Whether the place of each number is the number.
+fn are_counted(numbers: &[u32]) -> bool {
+    for (place, number) in numbers.iter().enumerate() {
+        if *number as usize != place {
+            return false;
+        }
+    }
+    true
+}
+
+// Whether these are the numbers below 1000, each once.
+fn are_each_once(alloc: Global, drawn: &[u32], others: &[u32]) -> Result<bool, AllocError> {
+    let mut numbers = drawn.to_vec(alloc)?;
+    numbers.extend_from_slice(others)?;
+    numbers.sort()?;
+    Ok(numbers.len() == 1000 && are_counted(&numbers))
 }
 
 #[test]
@@ -59,16 +77,12 @@ fn two_threads_draw_each_number_once(rt: HostRuntime) -> Result<(), Fail> {
         move || draw_all(alloc, source, one),
         move || draw_all(alloc, source, other),
     );
-    let (first, mut drawn) = one?;
+    let (first, drawn) = one?;
     let (second, others) = other?;
-    drawn.extend_from_slice(others.as_slice())?;
-    drawn.sort()?;
-    assert_eq!(rt; drawn.len(), 1000);
-    for (place, number) in drawn.iter().enumerate() {
-        assert_eq!(rt; *number as usize, place);
-    }
+    let once = are_each_once(alloc, &drawn, &others)?;
     claimers.push(first)?;
     claimers.push(second)?;
     claims.close(claimers);
+    assert!(rt; once);
     Ok(())
 }

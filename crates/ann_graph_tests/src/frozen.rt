@@ -1,4 +1,4 @@
-ghost use Rattle.std.specs.Prelude.{◌≡◌, ◌≤◌, [], length, IfOk};
+ghost use Rattle.std.specs.Prelude.{◌≡◌, ◌≤◌, ◌<◌, [], length, IfOk};
 
 use ann_frozen::Frozen;
 use ann_greedy::Graph;
@@ -6,6 +6,21 @@ use ann_table::Table;
 use ann_types::Params;
 use std::alloc::{AllocError, Global};
 use std::test::Fail;
+
+// An empty table of vectors of two components, with room for two rows.
+fn empty(alloc: Global) -> Result<Table, AllocError>
+    ensures empty { IfOk result (λ table. table.nodes ≡ []) }
+    ensures room { IfOk result (λ table. 2 ≤ table.spare) }
+    ensures width { IfOk result (λ table. table.params.d ≡ 2) }
+    ensures degree { IfOk result (λ table. table.params.r ≡ 2) }
+{
+    let Some(params) = Params::new(2, 2, 10, 12, 10, 1, 1, 100) else {
+        return Err(AllocError);
+    };
+    let mut table = Table::new(alloc, &params);
+    table.reserve(2)?;
+    Ok(table)
+}
 
 // Two points at (0, 1) and (4, 4), of which the first has the second as its neighbour.
 fn fill(table: &mut Table)
@@ -20,44 +35,51 @@ fn fill(table: &mut Table)
     table.link(0, 1);
 }
 
-// These two points, frozen.
-fn frozen(alloc: Global) -> Result<Frozen, AllocError>
-    ensures { IfOk result (λ frozen. length frozen.nodes ≡ 2) }
+// Whether a row is of this Pid, tag, vector and neighbour.
+fn is_row(frozen: &Frozen, row: u32, pid: u32, tag: u64, vector: [u8; 2], neighbour: u32) -> bool
+    requires { row < length frozen.now.nodes }
 {
-    let Some(params) = Params::new(2, 2, 10, 12, 10, 1, 1, 100) else {
-        return Err(AllocError);
-    };
-    let mut table = Table::new(alloc, &params);
-    table.reserve(2)?;
+    frozen.pid(row) == pid
+        && frozen.tag(row) == tag
+        && frozen.vector(row) == vector.as_slice()
+        && frozen.neighbours(row) == [neighbour].as_slice()
+}
+
+// Whether these are those two points.
+fn is_filled(frozen: &Frozen) -> bool
+    requires { length frozen.now.nodes ≡ 2 }
+{
+    frozen.known();
+    frozen.count() == 2
+        && frozen.entry() == Some(0)
+        && frozen.params().r == 2
+        && is_row(frozen, 0, 3, 30, [0, 1], 1)
+        && is_row(frozen, 1, 7, 70, [4, 4], 0)
+}
+
+// Whether the table, frozen, has these rows.
+fn keeps_rows(alloc: Global) -> Result<bool, AllocError> {
+    let mut table = empty(alloc)?;
     fill(&mut table);
-    Frozen::from_table(alloc, &table)
+    let frozen = Frozen::from_table(alloc, &table)?;
+    Ok(is_filled(&frozen))
 }
 
 #[test]
 fn a_frozen_table_keeps_its_rows(rt: HostRuntime) -> Result<(), Fail> {
-    let frozen = frozen(rt.alloc())?;
-    frozen.known();
-    assert_eq!(rt; frozen.count(), 2);
-    assert_eq!(rt; frozen.entry(), Some(0));
-    assert_eq!(rt; frozen.pid(0), 3);
-    assert_eq!(rt; frozen.tag(0), 30);
-    assert_eq!(rt; frozen.vector(0), [0, 1].as_slice());
-    assert_eq!(rt; frozen.neighbours(0), [1].as_slice());
-    assert_eq!(rt; frozen.pid(1), 7);
-    assert_eq!(rt; frozen.tag(1), 70);
-    assert_eq!(rt; frozen.vector(1), [4, 4].as_slice());
-    assert_eq!(rt; frozen.neighbours(1), [0].as_slice());
-    assert_eq!(rt; frozen.params().r, 2);
+    assert!(rt; keeps_rows(rt.alloc())?);
     Ok(())
+}
+
+// How many rows there are without a point, and the entry.
+fn nothing_frozen(alloc: Global) -> Result<(u32, Option<u32>), AllocError> {
+    let table = empty(alloc)?;
+    let frozen = Frozen::from_table(alloc, &table)?;
+    Ok((frozen.count(), frozen.entry()))
 }
 
 #[test]
 fn nothing_frozen_has_no_entry(rt: HostRuntime) -> Result<(), Fail> {
-    let Some(params) = Params::new(2, 2, 10, 12, 10, 1, 1, 100) else {
-        return Ok(());
-    };
-    let frozen = Frozen::from_table(rt.alloc(), &Table::new(rt.alloc(), &params))?;
-    assert_eq!(rt; frozen.count(), 0);
-    assert_eq!(rt; frozen.entry(), None);
+    assert_eq!(rt; nothing_frozen(rt.alloc())?, (0, None));
     Ok(())
 }

@@ -2,6 +2,7 @@ ghost use Rattle.ann_graph_tests.specs.Road.{road};
 
 use ann_greedy::{Graph, walk, walk_visited};
 use ann_pool::{Item, Pool};
+use std::alloc::{AllocError, Global};
 use std::test::Fail;
 
 /// Five points on a line, at 0, 10, 20, 30 and 40, each with those beside it as its neighbours.
@@ -41,10 +42,12 @@ impl Graph for Road {
 
 /// Whether these are the visited items of these rows at these distances.
 fn are_near(items: &[Item], near: &[(u32, u32)]) -> bool {
-    let is_near = |(item, row): (&Item, &(u32, u32))| {
-        item.visited && item.number == row.0 && item.distance == row.1
-    };
-    items.len() == near.len() && items.iter().zip(near).all(is_near)
+    for (item, (number, distance)) in items.iter().zip(near) {
+        if !item.visited || item.number != *number || item.distance != *distance {
+            return false;
+        }
+    }
+    items.len() == near.len()
 }
 
 /// The width, the query, the rows in order of visit, and those near with their distances.
@@ -59,17 +62,38 @@ const WALKS: [(u16, u8, &[u32], &[(u32, u32)]); 7] = [
     (1, 0, &[0], &[(0, 0)]),
 ];
 
+// Whether a walk finds what this row of the table says, with its visits and without.
+fn is_walked(
+    pool: &mut Pool,
+    visited: &mut Vec<u32>,
+    (width, query, order, near): (u16, u8, &[u32], &[(u32, u32)]),
+) -> Result<bool, AllocError> {
+    pool.clear(width.clamp(1, 1000));
+    walk_visited(&Road, &[query], pool, visited)?;
+    let noted = visited.as_slice() == order && are_near(pool.items(), near);
+    walk(&Road, &[query], pool);
+    Ok(noted && are_near(pool.items(), near))
+}
+
+// The first row of the table that isn't walked so.
+fn wrong_walk(pool: &mut Pool, visited: &mut Vec<u32>) -> Result<Option<usize>, AllocError> {
+    for (row, case) in WALKS.iter().enumerate() {
+        if !is_walked(pool, visited, *case)? {
+            return Ok(Some(row));
+        }
+    }
+    Ok(None)
+}
+
+// The same with a pool and a list of their own.
+fn wrong_row(alloc: Global) -> Result<Option<usize>, AllocError> {
+    let mut pool = Pool::with_room(alloc)?;
+    let mut visited = vec![in alloc; 9]?;
+    wrong_walk(&mut pool, &mut visited)
+}
+
 #[test]
 fn walks_to_the_nearest(rt: HostRuntime) -> Result<(), Fail> {
-    let mut pool = Pool::with_room(rt.alloc())?;
-    let mut visited = vec![in rt.alloc(); 9]?;
-    for (width, query, order, near) in WALKS {
-        pool.clear(width.clamp(1, 1000));
-        walk_visited(&Road, &[query], &mut pool, &mut visited)?;
-        assert_eq!(rt; visited.as_slice(), order, "to {query}, {width} wide");
-        assert!(rt; are_near(pool.items(), near), "to {query}, {width} wide");
-        walk(&Road, &[query], &mut pool);
-        assert!(rt; are_near(pool.items(), near), "to {query}, {width} wide");
-    }
+    assert_eq!(rt; wrong_row(rt.alloc())?, None);
     Ok(())
 }

@@ -3,6 +3,7 @@ ghost use Rattle.std.specs.List.{AllByRecursion};
 ghost use Rattle.std.specs.Int.{abs_diff};
 
 use ann_pool::{Item, Pool};
+use std::alloc::{AllocError, Global};
 use std::test::Fail;
 
 /// Offers numbers, each as far as it is from 5.
@@ -29,39 +30,87 @@ const LEAST: [(u16, &[u32], &[u32]); 7] = [
     (1, &[], &[]),
 ];
 
+// Whether the next item to visit is of this number, as far as it is from 5, and is known.
+fn is_next(pool: &mut Pool, number: u32) -> bool {
+    let next = Item {
+        distance: number.abs_diff(5),
+        number,
+        visited: false,
+    };
+    pool.next_unvisited() == Some(next) && pool.knows(number)
+}
+
+// Whether a row of the table holds.
+fn are_least(pool: &mut Pool, limit: u16, numbers: &[u32], least: &[u32]) -> bool {
+    pool.clear(limit.clamp(1, 1000));
+    offer_each(pool, numbers);
+    if pool.items().len() != least.len() {
+        return false;
+    }
+    for number in least {
+        if !is_next(pool, *number) {
+            return false;
+        }
+    }
+    pool.next_unvisited().is_none()
+}
+
+// The first row of the table that doesn't hold.
+fn wrong_row(alloc: Global) -> Result<Option<usize>, AllocError> {
+    let mut pool = Pool::with_room(alloc)?;
+    for (row, (limit, numbers, least)) in LEAST.iter().enumerate() {
+        if !are_least(&mut pool, *limit, numbers, least) {
+            return Ok(Some(row));
+        }
+    }
+    Ok(None)
+}
+
 #[test]
 fn keeps_and_visits_the_least(rt: HostRuntime) -> Result<(), Fail> {
-    let mut pool = Pool::with_room(rt.alloc())?;
-    assert_eq!(rt; pool.limit(), 1000);
-    for (limit, numbers, least) in LEAST {
-        pool.clear(limit.clamp(1, 1000));
-        offer_each(&mut pool, numbers);
-        assert_eq!(rt; pool.items().len(), least.len());
-        for number in least {
-            let next = Item {
-                distance: number.abs_diff(5),
-                number: *number,
-                visited: false,
-            };
-            assert!(rt; pool.next_unvisited() == Some(next), "{number}");
-            assert!(rt; pool.knows(*number));
-        }
-        assert!(rt; pool.next_unvisited().is_none());
-    }
+    assert_eq!(rt; wrong_row(rt.alloc())?, None);
     Ok(())
+}
+
+// Whether this is an item of this number.
+fn is_of(item: Option<Item>, number: u32) -> bool {
+    match item {
+        Some(item) => item.number == number,
+        None => false,
+    }
+}
+
+// Visits the next item, and says whether it is of this number.
+fn visits(pool: &mut Pool, number: u32) -> bool
+    requires { AllByRecursion (λ item. item.distance ≡ abs_diff item.number 5) pool.old.items }
+    ensures { AllByRecursion (λ item. item.distance ≡ abs_diff item.number 5) pool.new.items }
+{
+    let next = pool.next_unvisited();
+    is_of(next, number)
+}
+
+// Whether of two items the farther one is visited, then one that came nearer, and then none.
+fn visits_the_later_one(pool: &mut Pool) -> bool {
+    pool.clear(2);
+    offer_each(pool, &[6, 9]);
+    let first = visits(pool, 6);
+    offer_each(pool, &[5, 6]);
+    let second = visits(pool, 5);
+    first && second && pool.next_unvisited().is_none() && are_visited(pool.items())
+}
+
+fn are_visited(items: &[Item]) -> bool {
+    for item in items {
+        if !item.visited {
+            return false;
+        }
+    }
+    true
 }
 
 #[test]
 fn visits_a_nearer_one_that_comes_later(rt: HostRuntime) -> Result<(), Fail> {
     let mut pool = Pool::with_room(rt.alloc())?;
-    pool.clear(2);
-    offer_each(&mut pool, &[6, 9]);
-    let first = pool.next_unvisited().ok_or("none")?;
-    assert_eq!(rt; first.number, 6);
-    offer_each(&mut pool, &[5, 6]);
-    let second = pool.next_unvisited().ok_or("none")?;
-    assert_eq!(rt; second.number, 5);
-    assert!(rt; pool.next_unvisited().is_none());
-    assert!(rt; pool.items().iter().all(|item| item.visited));
+    assert!(rt; visits_the_later_one(&mut pool));
     Ok(())
 }
