@@ -1,8 +1,9 @@
+use crate::points::{codebook, opened, params, put};
 use ann_block::{Header, write_node};
 use ann_pq::Codebook;
 use ann_segment::{Directory, Segment, SegmentRefused, SegmentWriter, VerifyRefused};
 use ann_types::Params;
-use ann_vault::{Eye, MemoryEye, MemorySeal, MemoryVault, Vault};
+use ann_vault::{MemoryEye, MemorySeal, MemoryVault};
 use std::alloc::{AllocError, Global};
 use std::test::Fail;
 
@@ -65,35 +66,23 @@ fn written(alloc: Global, failing: &[u64]) -> Result<Segment<MemorySeal>, Segmen
     writer.finish(&mut vault)
 }
 
-// The codebook of one component in which each centroid is its number.
-fn codebook(alloc: Global) -> Result<Codebook, Fail> {
-    let mut bytes = b"ANNPQ001".to_vec(alloc)?;
-    bytes.extend_from_slice(&[1, 0, 1, 0])?;
-    for component in 0..=255u8 {
-        bytes.push(component)?;
-    }
-    Ok(Codebook::read(alloc, &bytes, 1, 1)?)
-}
-
-// The parameters of an index that such a segment is of.
-fn params() -> Result<Params, Fail> {
-    Ok(Params::new(1, 2, 4, 1, 1, 1, 1, 100).ok_or("no parameters")?)
-}
-
-// The segment of these bytes under a number, or why it isn't opened.
-fn opened(
-    alloc: Global,
-    number: u64,
-    bytes: &[u8],
+// Puts the node blocks of a segment that aren't verified into a list.
+fn verify_all(
+    segment: &Segment<MemorySeal>,
+    book: &Codebook,
+    params: &Params,
     eye: &mut MemoryEye,
-) -> Result<Result<Segment<MemorySeal>, SegmentRefused>, Fail> {
-    let mut vault = MemoryVault::new(alloc, &[])?;
-    vault.preset(number, bytes)?;
-    let seal = vault.open(number)?.ok_or("no seal")?;
-    match Segment::open(alloc, seal, number, &params()?, eye) {
-        Ok(segment) => Ok(Ok(segment)),
-        Err((why, _seal)) => Ok(Err(why)),
+    blocks: &mut Vec<u64>,
+) -> Result<(), Fail> {
+    let mut page = [0; 4096];
+    for row in 0..segment.count() {
+        match segment.verify(row, book, params, eye, &mut page) {
+            Ok(()) => {}
+            Err(VerifyRefused::BadSegment { block }) => blocks.push(block)?,
+            Err(why) => return Err(why.into()),
+        }
     }
+    Ok(())
 }
 
 // Which node blocks of a segment aren't verified.
@@ -102,16 +91,9 @@ fn unverified(
     segment: &Segment<MemorySeal>,
     eye: &mut MemoryEye,
 ) -> Result<Vec<u64>, Fail> {
-    let (params, book) = (params()?, codebook(alloc)?);
-    let mut page = [0; 4096];
+    let book = codebook(alloc, 0xFF)?;
     let mut blocks = Vec::new(alloc);
-    for row in 0..segment.count() {
-        match segment.verify(row, &book, &params, eye, &mut page) {
-            Ok(()) => {}
-            Err(VerifyRefused::BadSegment { block }) => blocks.push(block)?,
-            Err(why) => return Err(why.into()),
-        }
-    }
+    verify_all(segment, &book, &params(100)?, eye, &mut blocks)?;
     Ok(blocks)
 }
 
@@ -119,49 +101,75 @@ fn unverified(
 // that aren't verified.
 fn refused(alloc: Global, number: u64, bytes: &[u8]) -> Result<Vec<u64>, Fail> {
     let mut eye = MemoryEye::new(alloc, &[])?;
-    match opened(alloc, number, bytes, &mut eye)? {
+    match opened(alloc, number, bytes, &params(100)?, &mut eye)? {
         Ok(segment) => unverified(alloc, &segment, &mut eye),
         Err(SegmentRefused::BadSegment { block }) => Ok(vec![in alloc; block]?),
         Err(why) => Err(why.into()),
     }
 }
 
+// Whether these blocks of them are refused.
+fn are_refused(alloc: Global, number: u64, bytes: &[u8], wanted: &[u64]) -> Result<bool, Fail> {
+    let blocks = refused(alloc, number, bytes)?;
+    Ok(blocks.as_slice() == wanted)
+}
+
+// Whether a segment has the rows, the entry and the number of the one that was written.
+fn is_written(segment: &Segment<MemorySeal>) -> bool {
+    segment.count() == 2
+        && (segment.number(), segment.entry()) == (13, Some(0))
+        && (segment.pid(1), segment.node_block(1)) == (2, 3)
+        && segment.code(1) == [30].as_slice()
+}
+
 #[test]
 fn a_segment_is_written(rt: HostRuntime) -> Result<(), Fail> {
     let segment = written(rt.alloc(), &[])?;
-    assert_eq!(rt; (segment.number(), segment.entry()), (13, Some(0)));
-    assert_eq!(rt; segment.count(), 2);
-    assert_eq!(rt; (segment.pid(1), segment.node_block(1)), (2, 3));
-    assert_eq!(rt; segment.code(1), [30].as_slice());
+    let rows = is_written(&segment);
     let seal = segment.into_seal();
-    let mut eye = MemoryEye::new(rt.alloc(), &[])?;
-    assert_eq!(rt; eye.length(&seal)?, 16384);
-    let mut sealed = vec![in rt.alloc(); 0; 16384]?;
-    eye.read(&seal, 0, &mut sealed)?;
-    assert_eq!(rt; sealed.as_slice(), text(rt.alloc())?.as_slice());
+    let wanted = text(rt.alloc())?;
+    assert!(rt; rows && seal.bytes() == wanted.as_slice());
     Ok(())
 }
 
-// The draft is begun, the front is written in three calls and the nodes in two, and the draft is sealed.
+// The draft is begun, the front is written in three calls and the nodes in two, and the draft is sealed: the first of these
+// calls whose failure isn't told.
+fn wrong_write(alloc: Global) -> Option<u64> {
+    for call in 1..=7 {
+        if written(alloc, &[call]).err() != Some(SegmentRefused::Disk) {
+            return Some(call);
+        }
+    }
+    None
+}
+
 #[test]
 fn a_call_of_the_vault_fails(rt: HostRuntime) -> Result<(), Fail> {
-    for call in 1..=7 {
-        let refused = written(rt.alloc(), &[call]).err();
-        assert_eq!(rt; refused, Some(SegmentRefused::Disk), "{call}");
-    }
+    assert_eq!(rt; wrong_write(rt.alloc()), None);
     assert_eq!(rt; written(rt.alloc(), &[8])?.count(), 2);
     Ok(())
 }
 
-// The length, the header and the directory are read.
+// Why a segment isn't opened where this call of the eye fails.
+fn opening_refused(alloc: Global, bytes: &[u8], call: u64) -> Result<Option<SegmentRefused>, Fail> {
+    let mut eye = MemoryEye::new(alloc, &[call])?;
+    Ok(opened(alloc, 13, bytes, &params(100)?, &mut eye)?.err())
+}
+
+// The length, the header and the directory are read: the first of these calls whose failure isn't told.
+fn wrong_read(alloc: Global) -> Result<Option<u64>, Fail> {
+    let bytes = text(alloc)?;
+    for call in 1..=3 {
+        if opening_refused(alloc, &bytes, call)? != Some(SegmentRefused::Disk) {
+            return Ok(Some(call));
+        }
+    }
+    Ok(None)
+}
+
 #[test]
 fn a_call_of_the_eye_fails(rt: HostRuntime) -> Result<(), Fail> {
-    let bytes = text(rt.alloc())?;
-    for call in 1..=3 {
-        let mut eye = MemoryEye::new(rt.alloc(), &[call])?;
-        let refused = opened(rt.alloc(), 13, &bytes, &mut eye)?.err();
-        assert_eq!(rt; refused, Some(SegmentRefused::Disk), "{call}");
-    }
+    assert_eq!(rt; wrong_read(rt.alloc())?, None);
     Ok(())
 }
 
@@ -226,35 +234,62 @@ const CHANGES: [(usize, u8, &[u64]); 53] = [
     (16383, 1, &[3]),
 ];
 
+// Whether these blocks are refused with one byte changed.
+fn is_refused_at(alloc: Global, at: usize, byte: u8, wanted: &[u64]) -> Result<bool, Fail> {
+    let mut bytes = text(alloc)?;
+    put(&mut bytes, &[(at, byte)]);
+    are_refused(alloc, 13, &bytes, wanted)
+}
+
+// The first change for which other blocks are refused.
+fn wrong_change(alloc: Global) -> Result<Option<(usize, u8)>, Fail> {
+    for (at, byte, wanted) in CHANGES.iter() {
+        if !is_refused_at(alloc, *at, *byte, wanted)? {
+            return Ok(Some((*at, *byte)));
+        }
+    }
+    Ok(None)
+}
+
 #[test]
 fn segments_with_a_changed_byte(rt: HostRuntime) -> Result<(), Fail> {
-    for (at, byte, wanted) in CHANGES {
-        let mut bytes = text(rt.alloc())?;
-        *bytes.get_mut(at).ok_or("no such byte")? = byte;
-        let refused = refused(rt.alloc(), 13, &bytes)?;
-        assert_eq!(rt; refused.as_slice(), wanted, "{at} {byte}");
-    }
+    assert_eq!(rt; wrong_change(rt.alloc())?, None);
     Ok(())
+}
+
+/// A length, a number, and the blocks that are refused.
+const LENGTHS: [(usize, u64, &[u64]); 10] = [
+    (16384, 13, &[]),
+    (16384, 14, &[0]),
+    (0, 13, &[0]),
+    (4095, 13, &[0]),
+    (4096, 13, &[0]),
+    (8192, 13, &[0]),
+    (12288, 13, &[0]),
+    (16383, 13, &[0]),
+    (16385, 13, &[0]),
+    (20480, 13, &[0]),
+];
+
+// Whether these blocks are refused at a length.
+fn is_refused_of(alloc: Global, length: usize, number: u64, wanted: &[u64]) -> Result<bool, Fail> {
+    let mut bytes = text(alloc)?;
+    bytes.resize(length, 0)?;
+    are_refused(alloc, number, &bytes, wanted)
+}
+
+// The first length or number for which other blocks are refused.
+fn wrong_length(alloc: Global) -> Result<Option<(usize, u64)>, Fail> {
+    for (length, number, wanted) in LENGTHS {
+        if !is_refused_of(alloc, length, number, wanted)? {
+            return Ok(Some((length, number)));
+        }
+    }
+    Ok(None)
 }
 
 #[test]
 fn segments_of_another_length_or_number(rt: HostRuntime) -> Result<(), Fail> {
-    for (length, number, wanted) in [
-        (16384, 13, &[][..]),
-        (16384, 14, &[0]),
-        (0, 13, &[0]),
-        (4095, 13, &[0]),
-        (4096, 13, &[0]),
-        (8192, 13, &[0]),
-        (12288, 13, &[0]),
-        (16383, 13, &[0]),
-        (16385, 13, &[0]),
-        (20480, 13, &[0]),
-    ] {
-        let mut bytes = text(rt.alloc())?;
-        bytes.resize(length, 0)?;
-        let refused = refused(rt.alloc(), number, &bytes)?;
-        assert_eq!(rt; refused.as_slice(), wanted, "{length} {number}");
-    }
+    assert_eq!(rt; wrong_length(rt.alloc())?, None);
     Ok(())
 }

@@ -1,6 +1,12 @@
+ghost use Rattle.std.specs.Prelude.{◌≡◌};
+ghost use Rattle.std.specs.FinMap as map;
+ghost use Rattle.ann_vault.specs.Memory.{memory_held};
+
 use ann_vault::{
-    Eye, Failed, FolderEye, FolderVault, MemoryEye, MemoryVault, NumbersRefused, Vault,
+    Eye, Failed, FolderEye, FolderSeal, FolderVault, MemoryEye, MemorySeal, MemoryVault,
+    NumbersRefused, Vault,
 };
+use std::alloc::Global;
 use std::fs;
 use std::test::Fail;
 
@@ -25,124 +31,187 @@ fn sealed_length<V: Vault, E: Eye<Seal = V::Seal>>(
     eye.length(&seal)
 }
 
-#[test]
-fn a_vault_in_memory(rt: HostRuntime) -> Result<(), Fail> {
-    let alloc = rt.alloc();
-    let mut vault = MemoryVault::new(alloc, &[])?;
+fn is_there<V: Vault>(vault: &mut V, number: u64) -> Result<bool, Failed> {
+    Ok(vault.open(number)?.is_some())
+}
+
+// Whether these numbers are sealed.
+fn are_sealed<V: Vault>(alloc: Global, vault: &mut V, wanted: &[u64]) -> Result<bool, Fail> {
+    let mut numbers = vec![in alloc; 1, 2]?;
+    vault.numbers(&mut numbers)?;
+    Ok(numbers.as_slice() == wanted)
+}
+
+// Seals three bytes under the number 7, which are written in two pieces.
+fn seal_three(vault: &mut MemoryVault) -> Result<MemorySeal, Failed>
+    requires { memory_held vault.old ≡ map.empty }
+{
     let mut draft = vault.create(7)?;
     vault.write(&mut draft, b"ab")?;
     vault.write(&mut draft, b"c")?;
-    let seal = vault.seal(draft)?;
-    assert_eq!(rt; seal.bytes(), b"abc".as_slice());
-    assert!(rt; vault.open(3)?.is_none());
-    assert!(rt; vault.open(7)?.is_some());
-    let mut numbers = vec![in alloc; 1]?;
-    vault.numbers(&mut numbers)?;
-    assert_eq!(rt; numbers.as_slice(), [7].as_slice());
+    vault.seal(draft)
+}
+
+// Whether the bytes of a seal are held under 7 alone until it is removed.
+fn is_held(alloc: Global, vault: &mut MemoryVault, seal: MemorySeal) -> Result<bool, Fail> {
+    let bytes = seal.bytes() == b"abc".as_slice();
+    let alone = are_sealed(alloc, vault, &[7])? && is_there(vault, 7)? && !is_there(vault, 3)?;
     vault.remove(seal)?;
-    assert!(rt; vault.open(7)?.is_none());
-    Ok(())
+    Ok(bytes && alone && !is_there(vault, 7)?)
 }
 
 #[test]
-fn a_seal_keeps_its_bytes(rt: HostRuntime) -> Result<(), Fail> {
-    let alloc = rt.alloc();
-    let mut vault = MemoryVault::new(alloc, &[])?;
+fn a_vault_in_memory(rt: HostRuntime) -> Result<(), Fail> {
+    let mut vault = MemoryVault::new(rt.alloc(), &[])?;
+    let seal = seal_three(&mut vault)?;
+    assert!(rt; is_held(rt.alloc(), &mut vault, seal)?);
+    Ok(())
+}
+
+// A seal of three bytes that is held while another of them is removed.
+fn held_after_a_removal(vault: &mut MemoryVault) -> Result<MemorySeal, Fail>
+    requires { memory_held vault.old ≡ map.empty }
+{
     vault.preset(9, b"abc")?;
     let held = vault.open(9)?.ok_or("no seal")?;
     let other = vault.open(9)?.ok_or("no seal")?;
     vault.remove(other)?;
-    let mut eye = MemoryEye::new(alloc, &[2])?;
-    assert_eq!(rt; held.bytes(), b"abc".as_slice());
+    Ok(held)
+}
+
+// Whether an eye whose second call fails reads these three bytes.
+fn reads_three(eye: &mut MemoryEye, seal: &MemorySeal) -> bool {
+    if seal.bytes() != b"abc".as_slice() {
+        return false;
+    }
     let mut buf = [0; 2];
-    assert_eq!(rt; eye.read(&held, 1, &mut buf), Ok(()));
-    assert_eq!(rt; buf.as_slice(), b"bc".as_slice());
-    assert_eq!(rt; eye.length(&held), Err(Failed));
-    assert_eq!(rt; eye.length(&held), Ok(3));
+    let read = eye.read(seal, 1, &mut buf) == Ok(());
+    read && buf == *b"bc" && eye.length(seal) == Err(Failed) && eye.length(seal) == Ok(3)
+}
+
+#[test]
+fn a_seal_keeps_its_bytes(rt: HostRuntime) -> Result<(), Fail> {
+    let mut vault = MemoryVault::new(rt.alloc(), &[])?;
+    let mut eye = MemoryEye::new(rt.alloc(), &[2])?;
     cross(&vault, &eye);
+    let held = held_after_a_removal(&mut vault)?;
+    assert!(rt; reads_three(&mut eye, &held));
     Ok(())
 }
 
-// A seal that is made to fail in an even call is done.
-#[test]
-fn a_failing_seal(rt: HostRuntime) -> Result<(), Fail> {
-    let alloc = rt.alloc();
-    let mut vault = MemoryVault::new(alloc, &[1, 4])?;
-    assert!(rt; vault.create(6).is_err());
+// The first call and the fourth fail: a seal that is made to fail in an even call is done.
+fn is_sealed_all_the_same(vault: &mut MemoryVault) -> Result<bool, Fail>
+    requires { memory_held vault.old ≡ map.empty }
+{
+    let first = vault.create(6).is_err();
     let mut draft = vault.create(6)?;
     vault.write(&mut draft, b"ab")?;
-    assert!(rt; vault.seal(draft).is_err());
+    let fourth = vault.seal(draft).is_err();
     let seal = vault.open(6)?.ok_or("it is there")?;
-    assert_eq!(rt; seal.bytes(), b"ab".as_slice());
+    Ok(first && fourth && seal.bytes() == b"ab".as_slice())
+}
+
+#[test]
+fn a_failing_seal(rt: HostRuntime) -> Result<(), Fail> {
+    let mut vault = MemoryVault::new(rt.alloc(), &[1, 4])?;
+    assert!(rt; is_sealed_all_the_same(&mut vault)?);
     Ok(())
 }
 
-// A removal that is made to fail in an odd call isn't done.
+// The first call and the third fail: a removal that is made to fail in an odd call isn't done, and a refused list stays.
+fn stays(vault: &mut MemoryVault, list: &mut Vec<u64>) -> Result<bool, Fail>
+    requires { memory_held vault.old ≡ map.empty }
+{
+    vault.preset(8, b"ab")?;
+    let first = vault.numbers(list) == Err(NumbersRefused::Failed);
+    let seal = vault.open(8)?.ok_or("it is there")?;
+    let third = vault.remove(seal) == Err(Failed);
+    Ok(first && third && list.as_slice() == [5].as_slice() && is_there(vault, 8)?)
+}
+
 #[test]
 fn a_failing_removal(rt: HostRuntime) -> Result<(), Fail> {
-    let alloc = rt.alloc();
-    let mut vault = MemoryVault::new(alloc, &[1, 3])?;
-    vault.preset(8, b"ab")?;
-    let mut list = vec![in alloc; 5]?;
-    assert_eq!(rt; vault.numbers(&mut list), Err(NumbersRefused::Failed));
-    assert_eq!(rt; list.as_slice(), [5].as_slice());
-    let seal = vault.open(8)?.ok_or("it is there")?;
-    assert_eq!(rt; vault.remove(seal), Err(Failed));
-    assert!(rt; vault.open(8)?.is_some());
+    let mut vault = MemoryVault::new(rt.alloc(), &[1, 3])?;
+    let mut list = vec![in rt.alloc(); 5]?;
+    assert!(rt; stays(&mut vault, &mut list)?);
     Ok(())
+}
+
+const NUMBER: u64 = 7_000_001;
+
+type Folder = FolderVault<HostRuntime>;
+
+// Whether an eye reads the five bytes of a seal. A read beyond the end is a fault, and isn't counted as a read.
+fn reads_five(eye: &mut FolderEye, seal: &FolderSeal) -> bool {
+    let mut buf = [0; 4];
+    let read = eye.read(seal, 1, &mut buf) == Ok(()) && buf == *b"ello";
+    let beyond = eye.read(seal, 2, &mut buf) == Err(Failed)
+        && eye.read(seal, u64::MAX, &mut buf) == Err(Failed);
+    read && beyond && eye.faults() == 2 && eye.reads() == 1
+}
+
+// Whether a seal that was removed can't be removed again, which is the first fault.
+fn is_gone(vault: &mut Folder, seal: FolderSeal) -> bool {
+    vault.faults() == 0 && vault.remove(seal) == Err(Failed) && vault.faults() == 1
+}
+
+// Whether a seal is read and listed, and is gone but keeps its bytes once it was removed.
+fn keeps(alloc: Global, vault: &mut Folder, eye: &mut FolderEye) -> Result<bool, Fail> {
+    let seal = vault.open(NUMBER)?.ok_or("no seal")?;
+    let read = reads_five(eye, &seal) && are_sealed(alloc, vault, &[NUMBER])?;
+    let other = vault.open(NUMBER)?.ok_or("no seal")?;
+    vault.remove(other)?;
+    let mut buf = [0; 4];
+    eye.read(&seal, 0, &mut buf)?;
+    let kept = buf == *b"hell" && !is_there(vault, NUMBER)?;
+    Ok(read && kept && is_gone(vault, seal))
 }
 
 #[test]
 fn the_current_folder(rt: HostRuntime) -> Result<(), Fail> {
-    let number = 7_000_001;
     let _ = fs::remove_file(&rt, "7000001.seg");
     let mut vault = FolderVault::new(rt);
     let mut eye = FolderEye::new();
     cross(&vault, &eye);
-    let draft = vault.create(number)?;
-    assert_eq!(rt; sealed_length(&mut vault, &mut eye, draft, b"hello"), Ok(5));
-    assert!(rt; !fs::exists(&rt, "7000001.part")?);
-    let seal = vault.open(number)?.ok_or("no seal")?;
-    let mut buf = [0; 4];
-    eye.read(&seal, 1, &mut buf)?;
-    assert_eq!(rt; buf.as_slice(), b"ello".as_slice());
-    // A read beyond the end is a fault, and isn't counted as a read.
-    assert_eq!(rt; eye.read(&seal, 2, &mut buf), Err(Failed));
-    assert_eq!(rt; eye.read(&seal, u64::MAX, &mut buf), Err(Failed));
-    assert_eq!(rt; (eye.faults(), eye.reads()), (2, 1));
-    let mut numbers = vec![in rt.alloc(); 1, 2]?;
-    vault.numbers(&mut numbers)?;
-    assert_eq!(rt; numbers.as_slice(), [number].as_slice());
-    // What was removed is gone, but the seal keeps its bytes.
-    let other = vault.open(number)?.ok_or("no seal")?;
-    vault.remove(other)?;
-    assert!(rt; vault.open(number)?.is_none());
-    eye.read(&seal, 0, &mut buf)?;
-    assert_eq!(rt; buf.as_slice(), b"hell".as_slice());
-    assert_eq!(rt; vault.faults(), 0);
-    assert_eq!(rt; vault.remove(seal), Err(Failed));
-    assert_eq!(rt; vault.faults(), 1);
+    let draft = vault.create(NUMBER)?;
+    let sealed = sealed_length(&mut vault, &mut eye, draft, b"hello")? == 5;
+    let kept = keeps(rt.alloc(), &mut vault, &mut eye)?;
+    assert!(rt; sealed && kept && !fs::exists(&rt, "7000001.part")?);
     Ok(())
+}
+
+const FOLDERS: [&str; 3] = ["7000002.part", "7000003.seg", "07.seg"];
+
+fn make_folders(rt: HostRuntime) -> Result<(), Fail> {
+    for folder in FOLDERS {
+        let _ = fs::remove_dir(&rt, folder);
+        fs::create_dir(&rt, folder)?;
+    }
+    Ok(())
+}
+
+fn remove_folders(rt: HostRuntime) -> Result<(), Fail> {
+    for folder in FOLDERS {
+        fs::remove_dir(&rt, folder)?;
+    }
+    Ok(())
+}
+
+// Whether names that are taken are counted faults. A draft is sealed under no name that is a folder's.
+fn counts_taken_names(vault: &mut Folder) -> Result<bool, Failed> {
+    let two = vault.create(7_000_002).is_err() && vault.open(7_000_003).is_err();
+    let counted = vault.faults() == 2;
+    let draft = vault.create(7_000_003)?;
+    Ok(two && counted && vault.seal(draft).is_err() && vault.faults() == 3)
 }
 
 #[test]
 fn names_that_are_taken(rt: HostRuntime) -> Result<(), Fail> {
-    let folders = ["7000002.part", "7000003.seg", "07.seg"];
-    for folder in folders {
-        let _ = fs::remove_dir(&rt, folder);
-        fs::create_dir(&rt, folder)?;
-    }
+    make_folders(rt)?;
     let mut vault = FolderVault::new(rt);
-    assert!(rt; vault.create(7_000_002).is_err());
-    assert!(rt; vault.open(7_000_003).is_err());
-    assert_eq!(rt; vault.faults(), 2);
-    // A draft is sealed under no name that is a folder's.
-    let draft = vault.create(7_000_003)?;
-    assert!(rt; vault.seal(draft).is_err());
-    assert_eq!(rt; vault.faults(), 3);
-    for folder in folders {
-        fs::remove_dir(&rt, folder)?;
-    }
+    let counted = counts_taken_names(&mut vault)?;
+    remove_folders(rt)?;
     fs::remove_file(&rt, "7000003.part")?;
+    assert!(rt; counted);
     Ok(())
 }

@@ -1,72 +1,25 @@
 ghost use Rattle.std.specs.Prelude.{◌≡◌, ◌≤◌, ◌<◌, ◌+◌, IsTrue, false, None, Some, IsSome, All, IfOk, OnOk};
 ghost use Rattle.ann_segment.specs.Directory.{Item, item_of};
 
+use crate::beam::are_hits;
+use crate::points::{codebook, params, segment, two_points};
 use ann_beam::Desk;
 use ann_pq::Codebook;
 use ann_segment::Segment;
-use ann_types::{Ask, Hit, Params, Pid, Tag, Vector};
-use ann_vault::{MemoryEye, MemorySeal, MemoryVault, Vault};
+use ann_types::{Ask, Params, Pid, Tag, Vector};
+use ann_vault::{MemoryEye, MemorySeal};
 use ann_view::{Op, View};
 use std::alloc::{AllocError, Global};
 use std::sync::Arc;
 use std::test::Fail;
 
-// A codebook of one component in one part. Centroid i is i.
-fn identity(alloc: Global) -> Result<Codebook, AllocError>
-    ensures sizes { IfOk result (λ book. (book.d ≡ 1) × (book.m ≡ 1)) }
-{
-    let mut bytes = b"ANNPQ001".to_vec(alloc)?;
-    bytes.extend_from_slice(&[1, 0, 1, 0])?;
-    for i in 0..=255u8 {
-        bytes.push(i)?;
-    }
-    Codebook::read(alloc, &bytes, 1, 1).map_err(|_refused| AllocError)
-}
-
-fn codebook(alloc: Global) -> Result<Arc<Codebook>, AllocError>
+// The codebook in which each centroid is its number.
+fn shared_book(alloc: Global) -> Result<Arc<Codebook>, AllocError>
     ensures sizes { IfOk result (λ book. (book.value.d ≡ 1) × (book.value.m ≡ 1)) }
 {
-    let book = identity(alloc)?;
+    let book = codebook(alloc, 0xFF)?;
     let shared = Arc::new(alloc, book)?;
     Ok(shared)
-}
-
-// Writes a byte, where its place is there.
-fn put(bytes: &mut [u8], at: usize, byte: u8) {
-    if at < bytes.len() {
-        bytes[at] = byte;
-    }
-}
-
-// The bytes of segment 5 with d 1, R 2 and m 1: Pid 0 with tag 1 at 10, and Pid 1 with tag 2 at 20, each the other's
-// neighbour, and the first is the entry.
-fn text(alloc: Global) -> Result<Vec<u8>, AllocError> {
-    let mut bytes = b"ANNSEG01".to_vec(alloc)?;
-    bytes.resize(16384, 0)?;
-    for (place, value) in [
-        (8, 5),
-        (16, 1),
-        (18, 2),
-        (20, 1),
-        (24, 2),
-        // The directory: Pid 0 with code 10, and Pid 1 with code 20.
-        (4100, 10),
-        (4101, 1),
-        (4105, 20),
-        // The first node block: one neighbour, tag 1, component 10, row 1.
-        (8196, 1),
-        (8200, 1),
-        (8208, 10),
-        (8209, 1),
-        // The second: Pid 1, one neighbour, tag 2, component 20, row 0.
-        (12288, 1),
-        (12292, 1),
-        (12296, 2),
-        (12304, 20),
-    ] {
-        put(&mut bytes, place, value);
-    }
-    Ok(bytes)
 }
 
 // Whether a segment's Pids are below one.
@@ -81,19 +34,17 @@ fn is_below(segment: &Segment<MemorySeal>, next: Pid) -> bool
     true
 }
 
-// The segment of these bytes.
-fn segment(alloc: Global, params: &Params, next: Pid) -> Result<Arc<Segment<MemorySeal>>, Fail>
+// The segment 5 of two points at 10 and 20, whose Pids are below one.
+fn shared_segment(
+    alloc: Global,
+    params: &Params,
+    next: Pid,
+) -> Result<Arc<Segment<MemorySeal>>, Fail>
     ensures codes { IfOk result (λ segment. segment.value.m ≡ params.now.m) }
     ensures below { IfOk result (λ segment. All (λ (x : Item). x.0 < next) segment.value.items) }
 {
-    let bytes = text(alloc)?;
-    let mut vault = MemoryVault::new(alloc, &[])?;
-    let mut draft = vault.create(5)?;
-    vault.write(&mut draft, &bytes)?;
-    let seal = vault.seal(draft)?;
-    let mut eye = MemoryEye::new(alloc, &[])?;
-    let opened = Segment::open(alloc, seal, 5, params, &mut eye);
-    let segment = opened.map_err(|(why, _seal)| Fail::from(why))?;
+    let bytes = two_points(alloc, 5, [10, 20], [10, 20])?;
+    let segment = segment(alloc, 5, &bytes, params)?;
     if !is_below(&segment, next) {
         return Err("a Pid".into());
     }
@@ -175,12 +126,6 @@ const SEARCHES: [Search; 2] = [
     (100, 2, true, (2, 4, 10), 5, &[(2, 100)]),
 ];
 
-// What stands on a desk, as tags and distances.
-fn hits(alloc: Global, desk: &Desk) -> Result<Vec<(u64, u32)>, AllocError> {
-    let hits = desk.hits().iter().map(|hit: &Hit| (hit.tag, hit.distance));
-    hits.collect(alloc)
-}
-
 // What a search by a pin of a view finds: from how many entries.
 fn search_pinned(
     view: &View<MemorySeal>,
@@ -196,7 +141,6 @@ fn search_pinned(
 
 // Whether a search finds this much from so many entries, and whether the same by a pin does.
 fn finds_on(
-    alloc: Global,
     view: &View<MemorySeal>,
     desk: &mut Desk,
     eye: &mut MemoryEye,
@@ -204,12 +148,9 @@ fn finds_on(
     (at, wanted): (u64, &[(u64, u32)]),
 ) -> Result<(bool, bool), Fail> {
     let found = view.search(desk, eye, ask)?;
-    let first = found.at == at && hits(alloc, desk)?.as_slice() == wanted;
+    let first = found.at == at && are_hits(desk, wanted);
     let found = search_pinned(view, desk, eye, ask)?;
-    Ok((
-        first,
-        found == at && hits(alloc, desk)?.as_slice() == wanted,
-    ))
+    Ok((first, found == at && are_hits(desk, wanted)))
 }
 
 // The same with a desk and an eye of its own.
@@ -222,7 +163,7 @@ fn finds(
 ) -> Result<(bool, bool), Fail> {
     let mut eye = MemoryEye::new(alloc, &[])?;
     let mut desk = Desk::new(alloc, params)?;
-    finds_on(alloc, view, &mut desk, &mut eye, ask, wanted)
+    finds_on(view, &mut desk, &mut eye, ask, wanted)
 }
 
 // A value that may go to another thread and be shared by several.
@@ -232,49 +173,99 @@ fn shared<T: Send + Sync>(value: T) -> T
     value
 }
 
-// Fills an empty view, merges it or not, and searches a copy of it.
-fn fill_and_find(
+// Merges a view of two points, and says whether that leaves what it should.
+fn merges_two(view: &mut View<MemorySeal>, alloc: Global, params: &Params) -> Result<bool, Fail>
+    requires going { view.old.closed ≡ false }
+    requires begun { view.old.memory.begun ≡ None }
+    requires room { view.old.at ≤ 1000 }
+    requires codes { view.old.params ≡ params.now }
+    ensures going { OnOk result (view.new.closed ≡ false) }
+{
+    let segment = shared_segment(alloc, params, view.next())?;
+    Ok(merge(view, segment)? == (1, true))
+}
+
+// Fills an empty view, and merges it or not.
+fn fill_and_merge(
     view: &mut View<MemorySeal>,
     alloc: Global,
     params: &Params,
     count: u8,
     merges: bool,
-    ask: &Ask,
-    wanted: (u64, &[(u64, u32)]),
-) -> Result<(bool, bool), Fail>
+) -> Result<bool, Fail>
     requires going { view.old.closed ≡ false }
     requires width { (view.old.params.d ≡ 1) × (view.old.params ≡ params.now) }
     requires begun { view.old.memory.begun ≡ None }
     requires empty { (view.old.at ≡ 0) × (view.old.next ≡ 0) }
 {
     fill(view, alloc, count.min(5))?;
-    if merges {
-        let segment = segment(alloc, params, view.next())?;
-        if merge(view, segment)? != (1, true) {
-            return Err("another merge".into());
-        }
+    if merges && !merges_two(view, alloc, params)? {
+        return Ok(false);
     }
-    if !view.can_begin() || view.segment()?.is_some() != merges {
-        return Err("another state".into());
+    Ok(view.can_begin() && view.segment()?.is_some() == merges)
+}
+
+// What is wanted of points at most so far away.
+fn ask(alloc: Global, (k, l, x): (u16, u16, u8)) -> Result<Ask, Fail> {
+    let vector = Vector::copy(alloc, &[x])?;
+    match Ask::new(k, l, vector) {
+        Some(ask) => Ok(ask),
+        None => Err("no ask".into()),
     }
+}
+
+// Searches a copy of a view.
+fn finds_in_a_copy(
+    alloc: Global,
+    params: &Params,
+    view: &View<MemorySeal>,
+    ask: &Ask,
+    wanted: (u64, &[(u64, u32)]),
+) -> Result<(bool, bool), Fail> {
     let copy = shared(view.copy()?);
     finds(alloc, params, &copy, ask, wanted)
 }
 
-// Whether a search of the table, and the same by a pin, finds what is wanted.
+// Whether an empty view that is filled as a row of the table says finds what is wanted, and the same by a pin does.
+fn fills_and_finds(
+    view: &mut View<MemorySeal>,
+    alloc: Global,
+    params: &Params,
+    search: Search,
+) -> Result<(bool, bool), Fail>
+    requires going { view.old.closed ≡ false }
+    requires width { (view.old.params.d ≡ 1) × (view.old.params ≡ params.now) }
+    requires begun { view.old.memory.begun ≡ None }
+    requires empty { (view.old.at ≡ 0) × (view.old.next ≡ 0) }
+{
+    let (_freeze_at, count, merges, wish, at, wanted) = search;
+    if !fill_and_merge(view, alloc, params, count, merges)? {
+        return Ok((false, false));
+    }
+    let ask = ask(alloc, wish)?;
+    finds_in_a_copy(alloc, params, view, &ask, (at, wanted))
+}
+
+// The same of a view of its own.
 fn is_found(alloc: Global, search: Search) -> Result<(bool, bool), Fail> {
-    let (freeze_at, count, merges, (k, l, x), at, wanted) = search;
-    let params = Params::new(1, 2, 10, 1, 1, 1, 1, freeze_at).ok_or("no parameters")?;
-    let ask = Ask::new(k, l, Vector::copy(alloc, &[x])?).ok_or("no ask")?;
-    let mut view = View::new(alloc, &params, codebook(alloc)?)?;
-    fill_and_find(&mut view, alloc, &params, count, merges, &ask, (at, wanted))
+    let params = params(search.0)?;
+    let mut view = View::new(alloc, &params, shared_book(alloc)?)?;
+    fills_and_finds(&mut view, alloc, &params, search)
+}
+
+// The first search that doesn't.
+fn wrong_search(alloc: Global) -> Result<Option<usize>, Fail> {
+    for (number, search) in SEARCHES.iter().enumerate() {
+        if is_found(alloc, *search)? != (true, true) {
+            return Ok(Some(number));
+        }
+    }
+    Ok(None)
 }
 
 #[test]
 fn finds_live_points(rt: HostRuntime) -> Result<(), Fail> {
-    for search in SEARCHES {
-        assert_eq!(rt; is_found(rt.alloc(), search)?, (true, true));
-    }
+    assert_eq!(rt; wrong_search(rt.alloc())?, None);
     Ok(())
 }
 
@@ -294,30 +285,43 @@ fn replace_first(view: &mut View<MemorySeal>, alloc: Global) -> Result<(), Fail>
     Ok(())
 }
 
-// A view of the segment, whose first point is replaced.
-fn replace_and_find(
+// The view from entry 4 on of the segment.
+fn resumed(alloc: Global, params: &Params) -> Result<View<MemorySeal>, Fail>
+    requires one { (params.now.d ≡ 1) × (params.now.m ≡ 1) }
+    ensures going { IfOk result (λ view. view.closed ≡ false) }
+    ensures width { IfOk result (λ view. view.params.d ≡ 1) }
+    ensures room { IfOk result (λ view. (view.at ≤ 1000) × (view.next ≤ 1000)) }
+{
+    let segment = shared_segment(alloc, params, 2)?;
+    Ok(View::resume(alloc, params, shared_book(alloc)?, 4, 2, segment)?)
+}
+
+// The length of the list once the first point was replaced, and whether that point and the other are found at 10, also by
+// a pin.
+fn replaces_and_finds(
     view: &mut View<MemorySeal>,
     alloc: Global,
     params: &Params,
-    ask: &Ask,
-) -> Result<(bool, bool), Fail>
+) -> Result<(u64, (bool, bool)), Fail>
     requires going { view.old.closed ≡ false }
     requires width { view.old.params.d ≡ 1 }
     requires room { (view.old.at ≤ 1000) × (view.old.next ≤ 1000) }
 {
     replace_first(view, alloc)?;
-    finds(alloc, params, view, ask, (view.at(), &[(1, 4), (2, 100)]))
+    let ask = ask(alloc, (2, 4, 10))?;
+    let found = finds(alloc, params, view, &ask, (5, &[(1, 4), (2, 100)]))?;
+    Ok((view.at(), found))
+}
+
+// The same of a view that goes on from the segment.
+fn goes_on(alloc: Global) -> Result<(u64, (bool, bool)), Fail> {
+    let params = params(100)?;
+    let mut view = resumed(alloc, &params)?;
+    replaces_and_finds(&mut view, alloc, &params)
 }
 
 #[test]
 fn goes_on_from_a_segment(rt: HostRuntime) -> Result<(), Fail> {
-    let alloc = rt.alloc();
-    let params = Params::new(1, 2, 10, 1, 1, 1, 1, 100).ok_or("no parameters")?;
-    let ask = Ask::new(2, 4, Vector::copy(alloc, &[10])?).ok_or("no ask")?;
-    let segment = segment(alloc, &params, 2)?;
-    let mut view = View::resume(alloc, &params, codebook(alloc)?, 4, 2, segment)?;
-    let found = replace_and_find(&mut view, alloc, &params, &ask)?;
-    assert_eq!(rt; found, (true, true));
-    assert_eq!(rt; view.at(), 5);
+    assert_eq!(rt; goes_on(rt.alloc())?, (5, (true, true)));
     Ok(())
 }

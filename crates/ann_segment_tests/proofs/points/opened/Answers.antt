@@ -1,7 +1,7 @@
 use Rattle.std.proofs.Common.{ℕ, List, ap, ◌∙◌}
 use Rattle.std.specs.Ordering.{nat_cmp}
 use Rattle.std.specs.FinMap.{FinMap, get, get-empty}
-use Rattle.ann_segment_tests.proofs.segment.opened.Goals as goal
+use Rattle.ann_segment_tests.proofs.points.opened.Goals as goal
 
 pub preset-requires : goal.preset-requires
 preset-requires c = ap (λ (held : FinMap nat_cmp (List ℕ)). get held c.args.number) c.in_ok-vault.ensures.empty ∙ get-empty nat_cmp c.args.number

@@ -1,7 +1,0 @@
-use Rattle.std.proofs.Common.{ℕ, List, ap, ◌∙◌}
-use Rattle.std.specs.Ordering.{nat_cmp}
-use Rattle.std.specs.FinMap.{FinMap, get, get-empty}
-use Rattle.ann_segment_tests.proofs.vault.a_failing_removal.Goals as goal
-
-pub preset-requires : goal.preset-requires
-preset-requires g c = ap (λ (held : FinMap nat_cmp (List ℕ)). get held 8) c.in_ok-vault.ensures.empty ∙ get-empty nat_cmp 8
