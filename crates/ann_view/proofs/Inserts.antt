@@ -38,6 +38,15 @@ length_put params g n tag vector =
     ∙ length_push (pids_of g.points) n
     ∙ ap (λ k. k + 1) (length-map g.points (λ (x : Point). x.pid))
 
+-- rows with a point more leave room where there was room for two
+pub room_left : (params own : Params) (nodes nodes' : List Node) (pid tag : ℕ) (vector : List ℕ) → length nodes + 1 < params.freeze_at → graph_of nodes' ≡ put own (graph_of nodes) pid tag vector → length nodes' < params.freeze_at
+room_left params own nodes nodes' pid tag vector room e =
+    let more = length_put own (graph_of nodes) pid tag vector in
+    let same = ap (λ (g : Graph). length g.points) e in
+    let before = length_points nodes in
+    let after = length_points nodes' in
+    omega (arith, more, same, before, after, room)
+
 pub grown_open : (params : Params) (s : State) (g : Graph) → length g.points < params.freeze_at → grown params s g ≡ record s { rw = g }
 grown_open params s g l = ap (λ t. cond t (frozen s g) (record s { rw = g })) (ne_eqb (length g.points) params.freeze_at (λ e. absurd (omega arith)))
 
