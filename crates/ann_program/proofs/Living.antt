@@ -1,11 +1,11 @@
 -- The live tags and the next Pid behind some changes.
-use Rattle.std.proofs.Common.{◌≡◌, ◌<◌, ◌≤◌, ℕ, ◌+◌, true, false, cond, Option, Some, None, List, [], ◌∷◌, ◌++◌, refl, sym, ap, ◌∙◌, map, take, drop, length, get_or, nat_eq, eq-eqb}
+use Rattle.std.proofs.Common.{◌≡◌, ◌<◌, ◌≤◌, ℕ, ◌+◌, true, false, cond, Option, Some, None, List, [], ◌∷◌, ◌++◌, refl, sym, ap, ◌∙◌, map, take, drop, length, get_or, nat_eq, eq-eqb, arith}
 use Rattle.std.proofs.lemmas.Bool.{ne_eqb}
 use Rattle.std.specs.Prelude.{is_some}
 use Rattle.std.specs.FinMap.{get}
-use Rattle.std.proofs.lemmas.List.{map-append, take_more, drop_more, drop_all}
+use Rattle.std.proofs.lemmas.List.{map-append, take_more, drop_more, drop_all, length-map, length-append}
 use Rattle.ann_types.specs.Judge.{Refusal, entry_of, judge, judge_from, judge_all}
-use Rattle.ann_types.specs.Lists.{BasedList, with_entry, with_entries, makes_point, next_pid, is_live, live_of, mapped, unmapped}
+use Rattle.ann_types.specs.Lists.{BasedList, length_of, with_entry, with_entries, makes_point, next_pid, is_live, live_of, mapped, unmapped}
 use Rattle.ann_types.specs.declared.params.Params.{Params}
 use Rattle.ann_types.specs.declared.change.Change.{Change}
 use Rattle.ann_types.specs.declared.change.Change.TheVariants.{Insert, Delete, Replace}
@@ -14,7 +14,7 @@ use Rattle.ann_tags.specs.Tags.{Pids, map_of}
 use Rattle.ann_tags.proofs.Maps.{live_is, mapped_is, unmapped_is, found_insert, found_remove}
 use Rattle.ann_script.specs.declared.reply.UpdateWord.{UpdateWord}
 use Rattle.ann_program.specs.Once.{behind, tag_of, word_of}
-use Rattle.ann_program.specs.Standing.{word_by}
+use Rattle.ann_program.specs.Standing.{word_by, word_at}
 
 -- ---- changes behind a list
 
@@ -25,6 +25,9 @@ pub behind_more : (h : BasedList) (changes : List Change) (c : Change) → behin
 behind_more h changes c =
     ap (with_entries h) (map-append (entry_of 0) changes (c ∷ []))
     ∙ sym (entries_then h (map (entry_of 0) changes) (entry_of 0 c ∷ []))
+
+pub behind_long : (h : BasedList) (changes : List Change) → length_of (behind h changes) ≡ length_of h + length changes
+behind_long h changes = let size = length-append h.entries (map (entry_of 0) changes) in let made = length-map changes (entry_of 0) in omega (arith, size, made)
 
 -- ---- whether a tag is live
 
@@ -110,6 +113,10 @@ judging_ends params h changes i over so_far =
 pub word_none : (index at : ℕ) (o : Option Refusal) → None ≡ word_by index at o → o ≡ None
 word_none index at None is = refl
 word_none index at (Some r) is = absurd cc
+
+pub word_at_none : (at : ℕ) (o : Option (ℕ × Refusal)) → None ≡ word_at at o → o ≡ None
+word_at_none at None is = refl
+word_at_none at (Some r) is = absurd cc
 
 pub word_some : (index at : ℕ) (o : Option Refusal) (word : UpdateWord) → Some word ≡ word_by index at o → (r : Refusal) × (o ≡ Some r) × (word ≡ word_of index r at)
 word_some index at None word is = absurd cc

@@ -26,6 +26,29 @@ fn reply(alloc: Global, session: &mut Session, command: &Command) -> Result<Repl
     }
 }
 
+/// The transcript of a client's commands, with its last line, where a session of the empty list replies to them.
+fn lines_by(
+    alloc: Global,
+    session: &mut Session,
+    name: &str,
+    commands: &[Command],
+) -> Result<Transcript, AllocError>
+    requires fresh { Keeps empty_list session.old }
+    requires brief { All (λ command. IsBrief (order_of command)) commands.now }
+    requires short { length commands.now < lines_limit }
+    ensures { IfOk result (λ transcript. transcript ≡ lines_from (once_index session.old.params) name.now 1 empty_list (map order_of commands.now)) }
+{
+    let mut transcript = Transcript::new(alloc);
+    let mut number = 1u32;
+    for command in commands {
+        let reply = reply(alloc, session, command)?;
+        transcript.line(name, number, &reply)?;
+        number += 1;
+    }
+    transcript.last(session.entries(), session.live())?;
+    Ok(transcript)
+}
+
 /// The transcript of a client's commands, with its last line.
 fn lines(
     alloc: Global,
@@ -38,16 +61,8 @@ fn lines(
     requires short { length commands.now < lines_limit }
     ensures { IfOk result (λ transcript. transcript ≡ lines_from (once_index params.now) name.now 1 empty_list (map order_of commands.now)) }
 {
-    let mut transcript = Transcript::new(alloc);
     let mut session = Session::new(alloc, params)?;
-    let mut number = 1u32;
-    for command in commands {
-        let reply = reply(alloc, &mut session, command)?;
-        transcript.line(name, number, &reply)?;
-        number += 1;
-    }
-    transcript.last(session.entries(), session.live())?;
-    Ok(transcript)
+    lines_by(alloc, &mut session, name, commands)
 }
 
 /// The transcript of a script of one client, or of none.

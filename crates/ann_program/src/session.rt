@@ -84,11 +84,12 @@ impl Session {
         ensures kept { IfOk result (Keeps empty_list) }
     {
         let book = Arc::new(alloc, zero_book(alloc, params.d)?)?;
+        let desk = Desk::new(alloc, params)?;
         Ok(Session {
             params: *params,
             view: View::new(alloc, params, book)?,
             tags: Tags::new(alloc),
-            desk: Desk::new(alloc, params)?,
+            desk,
         })
     }
 
@@ -129,8 +130,8 @@ impl Session {
         ensures kept { (h : BasedList) → Keeps h self.old → judge self.old.params h (Insert tag vector.now) ≡ None → OnOk result (Keeps (with_entry h (entry_of 0 (Insert tag vector.now))) self.new) }
     {
         let pid = self.view.next();
-        let vector = Vector::copy(alloc, vector.bytes())?;
         self.tags.reserve(1)?;
+        let vector = Vector::copy(alloc, vector.bytes())?;
         self.view.apply(&Op::Insert { tag, vector })?;
         self.tags.insert(tag, pid);
         Ok(())
@@ -164,8 +165,8 @@ impl Session {
             unreachable!()
         };
         let pid = self.view.next();
-        let vector = Vector::copy(alloc, vector.bytes())?;
         self.tags.reserve(1)?;
+        let vector = Vector::copy(alloc, vector.bytes())?;
         self.view.apply(&Op::Replace { tag, gone, vector })?;
         self.tags.remove(tag);
         self.tags.insert(tag, pid);

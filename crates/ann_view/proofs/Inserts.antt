@@ -18,7 +18,7 @@ use Rattle.ann_table.proofs.Graphs.{length_points}
 use Rattle.ann_frozen.specs.Frozen.{Shown as FrozenShown, frozen_of}
 use Rattle.ann_frozen.proofs.Same.{graph_same}
 use Rattle.ann_dead.specs.Pids.{with_pid, without as dead_without, IsAscending}
-use Rattle.ann_view.specs.Temp.{Temp, state_of}
+use Rattle.ann_view.specs.Temp.{Temp, state_of, AreKept, IsOpenOver}
 use Rattle.ann_view.proofs.Deletes.{dead_added, without_same}
 
 -- the graphs of frozen rows
@@ -38,6 +38,15 @@ length_put params g n tag vector =
     ∙ length_push (pids_of g.points) n
     ∙ ap (λ k. k + 1) (length-map g.points (λ (x : Point). x.pid))
 
+-- rows with a point more leave room where there was room for two
+pub room_left : (params own : Params) (nodes nodes' : List Node) (pid tag : ℕ) (vector : List ℕ) → length nodes + 1 < params.freeze_at → graph_of nodes' ≡ put own (graph_of nodes) pid tag vector → length nodes' < params.freeze_at
+room_left params own nodes nodes' pid tag vector room e =
+    let more = length_put own (graph_of nodes) pid tag vector in
+    let same = ap (λ (g : Graph). length g.points) e in
+    let before = length_points nodes in
+    let after = length_points nodes' in
+    omega (arith, more, same, before, after, room)
+
 pub grown_open : (params : Params) (s : State) (g : Graph) → length g.points < params.freeze_at → grown params s g ≡ record s { rw = g }
 grown_open params s g l = ap (λ t. cond t (frozen s g) (record s { rw = g })) (ne_eqb (length g.points) params.freeze_at (λ e. absurd (omega arith)))
 
@@ -50,6 +59,24 @@ temp params state = record { params = params; state = state }
 -- the same with another state
 abbrev pub with_state : Temp → State → Temp
 with_state old state = record old { state = state }
+
+-- what is kept holds with a graph more that is frozen, and a table without points
+all_more : (params : Params) (ros : List FrozenShown) (more : FrozenShown) → AllByRecursion (λ (f : FrozenShown). f.params ≡ params) ros → more.params ≡ params → AllByRecursion (λ (f : FrozenShown). f.params ≡ params) (ros ++ more ∷ [])
+all_more params [] more all own = (own, tt)
+all_more params (f ∷ fs) more all own = (all.0, all_more params fs more all.1 own)
+
+open_more : (begun : Option Begun) (ros : List FrozenShown) (more : FrozenShown) → IsOpenOver begun (length ros) → IsOpenOver begun (length (ros ++ more ∷ []))
+open_more None ros more few = tt
+open_more (Some b) ros more few = let size = length_push ros more in omega (arith, few)
+
+pub kept_more : (params : Params) (rw rw' : TableShown) (ros ros' : List FrozenShown) (dead : List ℕ) (begun : Option Begun) (more : FrozenShown) → AreKept params rw ros dead begun → more.params ≡ params → rw' ≡ record { params = params; nodes = []; spare = 0 } → ros' ≡ ros ++ more ∷ [] → AreKept params rw' ros' dead begun
+kept_more params rw rw' ros ros' dead begun more kept own empty added = record {
+  table = ap (λ (t : TableShown). t.params) empty;
+  graphs = subst (AllByRecursion (λ (f : FrozenShown). f.params ≡ params)) (sym added) (all_more params ros more kept.graphs own);
+  few = subst (λ (t : TableShown). length t.nodes < params.freeze_at) (sym empty) (let few = kept.few in omega (arith, few));
+  once = kept.once;
+  merge = subst (λ (t : List FrozenShown). IsOpenOver begun (length t)) (sym added) (open_more begun ros more kept.merge);
+}
 
 module _ (old : Temp) (params : Params) (rw : TableShown) (ros : List FrozenShown) (dead : List ℕ) (begun : Option Begun) (is : temp params (state_of rw ros dead begun) ≡ old) where
   -- a point that doesn't fill the graph

@@ -1,14 +1,15 @@
 -- The part of an index that is in memory: the graph that takes new points, the frozen graphs, the deleted points and the
 -- open merge.
-use Rattle.std.specs.Prelude.{◌≡◌, ◌≤◌, ◌<◌, ℕ, List, Option, MatchOption, map, length}
+use Rattle.std.specs.Prelude.{◌≡◌, ◌≤◌, ◌<◌, ℕ, List, [], ◌∷◌, ◌++◌, Option, MatchOption, map, length}
 use Rattle.std.specs.List.{AllByRecursion}
 use Rattle.ann_types.specs.Graph.{empty_graph}
 use Rattle.ann_types.specs.Fold.{Begun, State}
 use Rattle.ann_types.specs.declared.params.Params.{Params}
 use Rattle.ann_dead.specs.Pids.{IsAscending}
-use Rattle.ann_table.specs.Node.{graph_of}
+use Rattle.ann_types.specs.Put.{put}
+use Rattle.ann_table.specs.Node.{Node, graph_of}
 use Rattle.ann_table.specs.Table.{Shown as TableShown}
-use Rattle.ann_frozen.specs.Frozen.{Shown as FrozenShown}
+use Rattle.ann_frozen.specs.Frozen.{Shown as FrozenShown, frozen_of}
 
 -- the parameters, and the state without its long-term graph, which isn't in memory
 pub record Temp : Type 0 where
@@ -39,3 +40,9 @@ pub record AreKept (params : Params) (rw : TableShown) (ros : List FrozenShown) 
   pub few : length rw.nodes < params.freeze_at
   pub once : IsAscending dead
   pub merge : IsOpenOver begun (length ros)
+
+-- frozen graphs with one more: a table with a point more, as it freezes
+pub record IsFrozenWith (table : TableShown) (pid tag : ℕ) (vector : List ℕ) (ros ros' : List FrozenShown) : Type 0 where
+  pub full : List Node
+  pub point : graph_of full ≡ put table.params (graph_of table.nodes) pid tag vector
+  pub added : ros' ≡ ros ++ (record { params = table.params; nodes = frozen_of full }) ∷ []

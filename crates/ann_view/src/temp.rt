@@ -4,10 +4,10 @@ ghost use Rattle.std.specs.List.Sorted.{IsStrictlyIncreasing};
 ghost use Rattle.ann_types.specs.Graph.{Point, empty_graph, is_empty, pids_of};
 ghost use Rattle.ann_types.specs.Fold.{inserted, deleted, frozen, begun_at, switched, start, all_points};
 ghost use Rattle.ann_types.specs.Legal.{has_work};
-ghost use Rattle.ann_table.specs.Node.{graph_of};
+ghost use Rattle.ann_table.specs.Node.{Node, graph_of};
 ghost use Rattle.ann_frozen.specs.Frozen.{Shown as FrozenShown};
 ghost use Rattle.ann_beam.specs.Desk.{result_of};
-ghost use Rattle.ann_view.specs.Temp.{IsTemp};
+ghost use Rattle.ann_view.specs.Temp.{IsTemp, IsFrozenWith};
 ghost use Rattle.ann_view.specs.Search.{near_result};
 
 use crate::frozen_list::FrozenList;
@@ -45,6 +45,50 @@ impl Model for TempIndex {
     ghost view = { λ t. record { params = t.params; state = state_of t.rw t.ros t.dead t.begun } };
 
     ghost invariant = { λ t. AreKept t.params t.rw t.ros t.dead t.begun };
+}
+
+/// Freezes a copy of a table that has a point more. The only error is want of memory; the list is then as it was.
+fn freeze_with_point(
+    ros: &mut FrozenList,
+    table: &Table,
+    scratch: &mut PutScratch,
+    pid: Pid,
+    tag: Tag,
+    vector: &[u8],
+) -> Result<(), AllocError>
+    requires above { All (λ (x : Node). x.pid < pid) table.now.nodes }
+    requires small { pid < 4294967295 }
+    requires vector { length vector.now ≡ table.now.params.d }
+    ensures added { OnOk result (IsFrozenWith table.now pid tag vector.now ros.old ros.new) }
+    ensures kept { OnErr result (ros.new ≡ ros.old) }
+{
+    let mut full = table.copy()?;
+    put(&mut full, scratch, pid, tag, vector)?;
+    ros.freeze(&full)
+}
+
+/// Copies the graphs in memory. The only error is want of memory.
+fn copy_graphs(rw: &Table, ros: &FrozenList) -> Result<(Table, FrozenList), AllocError>
+    ensures rw { IfOk result (λ graphs. graphs.0 ≡ record { params = rw.now.params; nodes = rw.now.nodes; spare = 0 }) }
+    ensures ros { IfOk result (λ graphs. graphs.1 ≡ ros.now) }
+{
+    let ros = ros.copy()?;
+    Ok((rw.copy()?, ros))
+}
+
+/// Copies the deleted points and the open merge. The only error is want of memory.
+fn copy_deletes(
+    dead: &Dead,
+    begun: &Option<OpenMerge>,
+) -> Result<(Dead, Option<OpenMerge>), AllocError>
+    ensures dead { IfOk result (λ deletes. deletes.0 ≡ dead.now) }
+    ensures begun { IfOk result (λ deletes. deletes.1 ≡ begun.now) }
+{
+    let dead = dead.copy()?;
+    match begun {
+        Some(begun) => Ok((dead, Some(begun.copy()?))),
+        None => Ok((dead, None)),
+    }
 }
 
 impl TempIndex {
@@ -104,9 +148,7 @@ impl TempIndex {
         ensures inserted { OnOk result (self.new ≡ record self.old { state = inserted self.old.params self.old.state pid tag vector.now }) }
         ensures refused { OnErr result (self.new ≡ self.old) }
     {
-        let mut full = self.rw.copy()?;
-        put(&mut full, &mut self.scratch, pid, tag, vector)?;
-        self.ros.freeze(&full)?;
+        freeze_with_point(&mut self.ros, &self.rw, &mut self.scratch, pid, tag, vector)?;
         self.rw = Table::new(self.alloc, &self.params);
         Ok(())
     }
@@ -226,17 +268,16 @@ impl TempIndex {
     pub(crate) fn copy(&self) -> Result<TempIndex, AllocError>
         ensures { IfOk result (λ copy. copy ≡ self.now) }
     {
-        let begun = match &self.begun {
-            Some(begun) => Some(begun.copy()?),
-            None => None,
-        };
+        let scratch = PutScratch::new(self.alloc)?;
+        let (rw, ros) = copy_graphs(&self.rw, &self.ros)?;
+        let (dead, begun) = copy_deletes(&self.dead, &self.begun)?;
         Ok(TempIndex {
             alloc: self.alloc,
             params: self.params,
-            rw: self.rw.copy()?,
-            scratch: PutScratch::new(self.alloc)?,
-            ros: self.ros.copy()?,
-            dead: self.dead.copy()?,
+            rw,
+            scratch,
+            ros,
+            dead,
             begun,
         })
     }

@@ -150,12 +150,14 @@ impl<S: Sealed> View<S> {
     pub fn copy(&self) -> Result<View<S>, AllocError>
         ensures { IfOk result (λ copy. copy ≡ self.now) }
     {
+        let book = self.book.clone()?;
+        let segment = self.segment()?;
         Ok(View {
-            book: self.book.clone()?,
+            book,
             at: self.at,
             next: self.next,
             temp: self.temp.copy()?,
-            segment: self.segment()?,
+            segment,
             closed: self.closed,
         })
     }
@@ -164,12 +166,14 @@ impl<S: Sealed> View<S> {
     pub fn pin(&self) -> Result<Pinned<S>, AllocError>
         ensures { IfOk result (λ pin. pin ≡ pinned self.now) }
     {
+        let book = self.book.clone()?;
+        let segment = self.segment()?;
         Ok(Pinned {
             params: *self.temp.params(),
-            book: self.book.clone()?,
+            book,
             at: self.at,
             dead: self.temp.pin()?,
-            segment: self.segment()?,
+            segment,
         })
     }
 }

@@ -1,9 +1,13 @@
 use Rattle.std.proofs.Common.{[], List, ap, ◌∙◌}
 use Rattle.ann_table.specs.Table.{Shown as TableShown}
-use Rattle.ann_frozen.specs.Frozen.{Shown as FrozenShown}
+use Rattle.ann_frozen.specs.Frozen.{Shown as FrozenShown, frozen_of}
 use Rattle.ann_view.specs.Temp.{state_of}
-use Rattle.ann_view.proofs.Inserts.{temp, frozen_rw}
+use Rattle.ann_view.proofs.Inserts.{kept_more, temp, frozen_rw}
 use Rattle.ann_view.proofs.temp.TempIndex.freeze.Goals as goal
+
+pub invariant_of-self-2 : goal.invariant_of-self-2
+invariant_of-self-2 c =
+    kept_more c.self.inside.params c.self.inside.rw c.new.result c.self.inside.ros c.freeze.new.self c.self.inside.dead c.self.inside.begun (record { params = c.self.inside.rw.params; nodes = frozen_of c.self.inside.rw.nodes }) c.self.invariant c.self.invariant.table c.new.ensures c.in_ok-freeze.ensures.added
 
 pub returns-clause-frozen : goal.returns-clause-frozen
 returns-clause-frozen c =
