@@ -1,5 +1,5 @@
 -- Which directory block is the first that is refused.
-use Rattle.std.proofs.Common.{◌≡◌, ◌≢◌, inl, inr, ℕ, ◌+◌, ◌-◌, ◌*◌, ◌/◌, ◌≤◌, ◌<◌, List, drop, refl, arith}
+use Rattle.std.proofs.Common.{◌≢◌, inl, inr, ℕ, ◌+◌, ◌-◌, ◌*◌, ◌/◌, ◌≤◌, ◌<◌, List, drop, refl, arith}
 use Rattle.std.specs.Prelude.{Any}
 use Rattle.std.proofs.Math.Nat.{mul-le-mul_right}
 use Rattle.ann_segment.proofs.Rows.{row_within}

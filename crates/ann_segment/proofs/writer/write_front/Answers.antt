@@ -1,4 +1,4 @@
-use Rattle.std.proofs.Common.{◌≡◌, ℕ, List, ◌++◌, take, replicate, Result, Ok, Err, ap, ◌∙◌, arith}
+use Rattle.std.proofs.Common.{ℕ, List, ◌++◌, take, replicate, Result, Ok, Err, ap, ◌∙◌, arith}
 use Rattle.std.specs.Prelude.{OnOk}
 use Rattle.ann_segment.proofs.Rows.{front_written, take-replicate}
 use Rattle.ann_segment.proofs.writer.write_front.Goals as goal
