@@ -77,12 +77,34 @@ fn gather<F: LogFile>(
     ensures later { HaveLater F.faults files.old files.new }
     ensures cause { IfErr result (λ why. why ≡ MakeWhy.Disk → RoseIn F.faults files.old files.new) }
 {
+    refuse_index(alloc, files)?;
+    own_parts(alloc, params, book)
+}
+
+// Refuses files of which one begins with a preamble.
+fn refuse_index<F: LogFile>(alloc: Global, files: &mut Files<F>) -> Result<(), MakeWhy>
+    ensures none { F.tells → OnOk result (IsNoIndex (F.seen files.old.first) (F.seen files.old.second)) }
+    ensures there { F.tells → IfErr result (λ why. why ≡ MakeWhy.IndexThere → IsNoIndex (F.seen files.old.first) (F.seen files.old.second) → ⊥) }
+    ensures same { F.tells → AreUntouched F.seen F.unsynced F.past files.old files.new }
+    ensures later { HaveLater F.faults files.old files.new }
+    ensures cause { IfErr result (λ why. why ≡ MakeWhy.Disk → RoseIn F.faults files.old files.new) }
+{
     if is_made(alloc, &mut files.first)? {
         return Err(MakeWhy::IndexThere);
     }
     if is_made(alloc, &mut files.second)? {
         return Err(MakeWhy::IndexThere);
     }
+    Ok(())
+}
+
+// A codebook and room for writing.
+fn own_parts(alloc: Global, params: &Params, book: &[u8]) -> Result<(Codebook, Room), MakeWhy>
+    requires { fault params.now.d params.now.m book.now ≡ None }
+    ensures book { IfOk result (λ parts. parts.0 ≡ codebook params.now.d params.now.m book.now) }
+    ensures room { IfOk result (λ parts. HasRoom params.now.d parts.1.frame.items parts.1.preamble.items) }
+    ensures why { IfErr result (λ why. why ≡ MakeWhy.Memory) }
+{
     let Ok(book) = Codebook::read(alloc, book, params.d, params.m) else {
         return Err(MakeWhy::Memory);
     };

@@ -1,5 +1,6 @@
 // The fields of a preamble before its codebook.
-ghost use Rattle.std.specs.Prelude.{◌≡◌, ◌≤◌, Ok, length, MatchOption, true, false};
+ghost use Rattle.std.specs.Prelude.{◌≡◌, ◌≤◌, ◌+◌, Ok, length, MatchOption, true, false};
+ghost use Rattle.ann_bytes.specs.LittleEndian.{number_of, field};
 ghost use Rattle.ann_preamble.specs.Preamble.{fields_with, fields_one, fields_two, base_in, begins, fields_in, are_sound, are_limits, fields_of, no_base};
 
 use crate::base::Base;
@@ -85,18 +86,27 @@ fn fields_before(bytes: &[u8], generation: u64, base: Base) -> Result<Fields, Sh
     ensures { result ≡ Ok (fields_with bytes.now generation base) }
 {
     Ok(Fields {
-        d: get_u16(bytes, 9)?,
-        r: get_u16(bytes, 11)?,
-        l_build: get_u16(bytes, 13)?,
-        a: get_u16(bytes, 15)?,
-        b: get_u16(bytes, 17)?,
-        w: get_u16(bytes, 19)?,
-        m: get_u16(bytes, 21)?,
-        zero: get_u16(bytes, 23)?,
+        d: u16_at(bytes, 9),
+        r: u16_at(bytes, 11),
+        l_build: u16_at(bytes, 13),
+        a: u16_at(bytes, 15),
+        b: u16_at(bytes, 17),
+        w: u16_at(bytes, 19),
+        m: u16_at(bytes, 21),
+        zero: u16_at(bytes, 23),
         freeze_at: get_u32(bytes, 25)?,
         generation,
         base,
     })
+}
+
+// The number of two bytes, which are there.
+#[inline]
+fn u16_at(bytes: &[u8], at: usize) -> u16
+    requires { at + 2 ≤ length bytes.now }
+    ensures { result ≡ number_of (field bytes.now at 2) }
+{
+    get_u16(bytes, at).unwrap_or(0)
 }
 
 impl Fields {

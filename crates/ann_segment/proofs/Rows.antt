@@ -146,14 +146,17 @@ header_long : (header : Header) → length (header_bytes header) ≡ 4096
 unfolding header_bytes
 header_long header = omega (arith, length-append (zeros 4064) [], length-zeros 4064)
 
-pub front_is : (header : Header) (items : List Item) (block bytes pad : List ℕ) (n : ℕ) → block ≡ header_bytes header → bytes ≡ directory_bytes items → pad ≡ zeros n → length bytes + n ≡ 4096 * blocks_of (length bytes) → (block ++ bytes) ++ pad ≡ front_bytes header items
-unfolding front_bytes filled
-front_is header items block bytes pad n first second third fills =
-    let size : length bytes ≡ length (directory_bytes items) = ap length second in
+pub front_written : (header : Header) (before block bytes pad : List ℕ) (n : ℕ) → block ≡ header_bytes header → pad ≡ zeros n → length bytes + n ≡ 4096 * blocks_of (length bytes) → ((before ++ block) ++ bytes) ++ pad ≡ before ++ (header_bytes header ++ filled bytes)
+unfolding filled
+front_written header before block bytes pad n first last fills =
     let left : n ≡ 4096 * blocks_of (length bytes) - length bytes = omega (arith, fills) in
-    append_assoc block bytes pad
-    ∙ ap₂ (λ (x y : List ℕ). x ++ y) first
-    (ap₂ (λ (x y : List ℕ). x ++ y) second (third ∙ ap zeros left ∙ ap (λ (k : ℕ). zeros (4096 * blocks_of k - k)) size))
+    append_assoc (before ++ block) bytes pad
+    ∙ append_assoc before block (bytes ++ pad)
+    ∙ ap₂ (λ (x y : List ℕ). before ++ (x ++ (bytes ++ y))) first (last ∙ ap zeros left)
+
+pub front_is : (header : Header) (items : List Item) (bytes : List ℕ) → bytes ≡ directory_bytes items → header_bytes header ++ filled bytes ≡ front_bytes header items
+unfolding front_bytes
+front_is header items bytes is = ap (λ (b : List ℕ). header_bytes header ++ filled b) is
 
 pub front_long : (header : Header) (items : List Item) → length items ≡ header.count → All (λ item. length item.1 ≡ header.m) items → length (front_bytes header items) ≡ 4096 * (1 + directory_blocks header.count header.m)
 unfolding front_bytes filled

@@ -1,5 +1,5 @@
 // Reading the header and the directory of a segment.
-ghost use Rattle.std.specs.Prelude.{◌≡◌, ◌≢◌, ◌≤◌, ◌<◌, ◌+◌, ◌-◌, ◌*◌, ℕ, length, slice_range, IfOk, IfErr, IfSome, None, MatchOption, IsErrOf, IsTrue, ◌↔◌};
+ghost use Rattle.std.specs.Prelude.{◌≡◌, ◌≢◌, ◌≤◌, ◌<◌, ◌+◌, ◌-◌, ◌*◌, ℕ, length, slice_range, IfOk, IfErr, IfSome, None, MatchOption, IsErrOf, IsTrue, Any, ◌↔◌};
 ghost use Rattle.ann_vault.specs.Causes.{Rose};
 ghost use Rattle.ann_block.specs.Header.{IsHeader, header_of};
 ghost use Rattle.ann_segment.specs.Directory.{AreRising, directory_blocks, items_in, pid_at};
@@ -126,10 +126,17 @@ fn refused_block(directory: &[u8], count: u32, m: u16) -> Option<u64>
         return Some(1 + u64::from(row) * size / BLOCK as u64);
     }
     let end = u64::from(count) * size;
-    if directory[end as usize..].iter().any(|&byte| byte != 0) {
+    if has_other_than_zeros(&directory[end as usize..]) {
         return Some(directory_blocks(count, m));
     }
     None
+}
+
+// One of the bytes isn't 0.
+fn has_other_than_zeros(bytes: &[u8]) -> bool
+    ensures { IsTrue result ↔ Any (λ byte. byte ≢ 0) bytes.now }
+{
+    bytes.iter().any(|&byte| byte != 0)
 }
 
 // The first row whose Pid isn't above the one before.

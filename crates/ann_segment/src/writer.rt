@@ -2,11 +2,12 @@
 ghost use Rattle.std.specs.Prelude.{◌≡◌, ◌⊎◌, ◌≤◌, ◌<◌, ◌+◌, ◌*◌, ◌++◌, ◌^◌, ℕ, None, length, IfOk, IfErr, OnOk, OnErr, IsErrOf};
 ghost use Rattle.std.specs.List.{flat_map};
 ghost use Rattle.std.specs.FinMap as map;
-ghost use Rattle.ann_vault.specs.Causes.{Rose};
+ghost use Rattle.ann_vault.specs.Causes.{HasCause, Rose};
+ghost use Rattle.ann_block.specs.Header.{IsHeader, header_bytes};
 ghost use Rattle.ann_types.specs.Graph.{Graph};
 ghost use Rattle.ann_types.specs.Codes.{Book};
 ghost use Rattle.ann_types.specs.declared.params.Params.{Params};
-ghost use Rattle.ann_segment.specs.Directory.{blocks_of, directory_blocks};
+ghost use Rattle.ann_segment.specs.Directory.{blocks_of, directory_blocks, filled};
 ghost use Rattle.ann_segment.specs.Segment.{AreFront, SegmentView, WriterView};
 ghost use Rattle.ann_segment.specs.Text.{front_bytes, header_for, items_for, node_for, segment_text};
 ghost use Rattle.ann_segment.specs.declared.refused.SegmentRefused.TheVariants.{Disk, Memory};
@@ -14,7 +15,7 @@ ghost use Rattle.ann_segment.specs.declared.refused.SegmentRefused.TheVariants.{
 use crate::fields::BLOCK;
 use crate::{Directory, Segment, SegmentRefused};
 use ann_block::{Header, write_header};
-use ann_vault::Vault;
+use ann_vault::{Failed, Vault};
 use std::marker::Model;
 
 /// A segment that is being written, block by block, into a draft of a vault.
@@ -66,12 +67,7 @@ impl<D: Drop> SegmentWriter<D> {
     {
         let bytes = directory.bytes()?;
         let mut draft = vault.create(header.number)?;
-        let mut block = [0; BLOCK];
-        write_header(&header, &mut block);
-        vault.write(&mut draft, &block)?;
-        vault.write(&mut draft, &bytes)?;
-        let zeros = [0; BLOCK];
-        vault.write(&mut draft, &zeros[..padding(bytes.len())])?;
+        write_front(vault, &mut draft, &header, &bytes)?;
         Ok(SegmentWriter {
             header,
             directory: bytes,
@@ -144,6 +140,27 @@ impl<D: Drop> SegmentWriter<D> {
             seal,
         })
     }
+}
+
+// Writes the header block and the directory blocks.
+fn write_front<V: Vault>(
+    vault: &mut V,
+    draft: &mut V::Draft,
+    header: &Header,
+    directory: &[u8],
+) -> Result<(), Failed>
+    requires header { IsHeader header.now }
+    ensures number { V.Seal.tells → V.draft_number draft.new ≡ V.draft_number draft.old }
+    ensures blocks { V.Seal.tells → OnOk result (V.draft_bytes draft.new ≡ V.draft_bytes draft.old ++ (header_bytes header.now ++ filled directory.now)) }
+    ensures same { V.Seal.tells → V.held vault.new ≡ V.held vault.old }
+    ensures cause { HasCause (V.faults vault.old) (V.faults vault.new) result }
+{
+    let mut block = [0; BLOCK];
+    write_header(header, &mut block);
+    vault.write(draft, &block)?;
+    vault.write(draft, directory)?;
+    let zeros = [0; BLOCK];
+    vault.write(draft, &zeros[..padding(directory.len())])
 }
 
 // How many zeros fill up the last block of so many bytes.

@@ -1,4 +1,5 @@
-use Rattle.std.proofs.Common.{append_assoc, length-append, ◌∷◌, ◌++◌, [], ◌+◌, ap, sym, ◌∙◌, arith, take}
+use Rattle.std.proofs.Common.{append_assoc, length-append, ◌∷◌, ◌++◌, [], ◌+◌, length, ap, sym, ◌∙◌, arith, take}
+use Rattle.ann_disk.proofs.Images.{length-overwritten}
 use Rattle.ann_disk.specs.File.{overwritten}
 use Rattle.ann_frame.specs.Frames.{frame_bytes}
 use Rattle.ann_frame.proofs.Filling.{sizes_most}
@@ -39,3 +40,24 @@ returns-clause-file g c told =
     ∙ ap (overwritten (g.F.LogFile.seen c.args.file.now) (c.args.gate + 1)) (at_front c.args.frame.now c.write_frame-size.new.out (frame ++ 0 ∷ []) c.write_frame-size.result c.write_frame-size.ensures.written (c.write_frame-size.ensures.size ∙ sym (length-append frame (0 ∷ [])))))
     (c.in_ok-write_at-2.ensures.written told)
     ∙ sym (append_assoc front (1 ∷ frame) (0 ∷ []))
+
+pub write_at-requires : goal.write_at-requires
+write_at-requires g c told = omega (arith, c.requires.place told)
+
+pub write_at-requires-2 : goal.write_at-requires-2
+write_at-requires-2 g c told = omega (arith, c.requires.place told, ap length (c.in_ok-write_at.ensures.written told) ∙ length-overwritten (g.F.LogFile.seen c.args.file.now) (c.args.gate + 1) _ (omega (arith, c.requires.place told)))
+
+pub overflow_add-result : goal.overflow_add-result
+overflow_add-result g c =
+    let frame = frame_bytes c.args.entries.now in
+    let written = ap length (at_front c.args.frame.now c.write_frame-size.new.out (frame ++ 0 ∷ []) c.write_frame-size.result c.write_frame-size.ensures.written (c.write_frame-size.ensures.size ∙ sym (length-append frame (0 ∷ [])))) in
+    record { fits = omega (arith, c.in_ok-write_at.ensures.end, written, length-append frame (0 ∷ []), c.write_frame-size.ensures.size) }
+
+pub returns-clause-end : goal.returns-clause-end
+returns-clause-end g c =
+    let frame = frame_bytes c.args.entries.now in
+    let written = ap length (at_front c.args.frame.now c.write_frame-size.new.out (frame ++ 0 ∷ []) c.write_frame-size.result c.write_frame-size.ensures.written (c.write_frame-size.ensures.size ∙ sym (length-append frame (0 ∷ [])))) in
+    omega (arith, c.in_ok-write_at.ensures.end, written, length-append frame (0 ∷ []), c.write_frame-size.ensures.size)
+
+pub returns-clause-place : goal.returns-clause-place
+returns-clause-place g c = omega (arith, c.write_frame-size.ensures.size)

@@ -1,4 +1,5 @@
-use Rattle.std.proofs.Common.{◌≡◌, ◌-◌, ◌++◌, ◌∷◌, [], length, take, ◌∙◌, subst, sym}
+use Rattle.std.proofs.Common.{◌≡◌, ◌-◌, ◌++◌, ◌∷◌, [], length, take, ◌∙◌, ap, subst, sym}
+use Rattle.ann_disk.specs.Image.{clean}
 use Rattle.ann_log.specs.Anew.{IsUnmade}
 use Rattle.ann_disk.proofs.Moments.{started, after_sync}
 use Rattle.ann_log.proofs.Writing.{first_shut, shut_unmade, head_last, head_put}
@@ -41,3 +42,22 @@ returns-clause-during g c told =
     (shut_unmade (D.unsynced mid) (c.put_tail.ensures.shut told)) in
     after_sync D.past D.unsynced c.args.file.now mid c.sync.new.self IsUnmade (D.seen mid) c.sync.result sofar
     (c.sync.ensures.images told) (c.sync.ensures.past told) (c.sync.ensures.failed told) (sofar.now (D.seen mid) (g.met.F.LogFile.reads_an_image mid told))
+
+pub returns-clause-held : goal.returns-clause-held
+returns-clause-held g c =
+    let D = g.F.LogFile in
+    let head = c.args.head.now in
+    let held = c.in_ok-gate.ensures.held in
+    record {
+      frames = held.frames;
+      are = held.are;
+      place = held.place;
+      end = held.end;
+      file = λ told.
+          c.sync.ensures.seen told
+          ∙ held.file told
+          ∙ ap (λ l. take (length head - 1) l ++ held.frames ++ 0 ∷ []) (head_put head (D.seen c.args.file.now) (D.seen c.write_at.new.self) c.requires.head (c.requires.cleared told) (c.in_ok-write_at.ensures.written told));
+    }
+
+pub returns-clause-rest : goal.returns-clause-rest
+returns-clause-rest g c told = c.in_ok-sync.ensures.images told ∙ ap clean (sym (c.sync.ensures.seen told))

@@ -164,3 +164,23 @@ returns-in-Err-clause-during g c told =
     subst (λ view. LeavePairs D.past D.unsynced (files_of view) (files_in i.side new i.other) (IsBeforeOrAfter (held_of view) entries)) c.self.view_is
     (during_pairs D.past D.unsynced D.seen D.tells i.side held i.generation i.log new i.other i.gate i.count refl sound entries frame told
     (subst (λ (l : List ℕ). LeavesOnly D.past D.unsynced i.log new (MayHold i.gate (D.seen i.log) l)) framed (c.store_frame.ensures.during told)))
+
+pub store_frame-requires-clause-place : goal.store_frame-requires-clause-place
+store_frame-requires-clause-place g c told =
+    let closed : c.self.inside.closed ≡ false = ap (λ v. v.is_closed) c.self.view_is ∙ c.requires.open in
+    let rest = c.self.invariant.0.rest told closed in
+    omega (arith, ap length rest.spelled, length-append rest.head (rest.front ++ rest.shown ∷ []), length-append rest.front (rest.shown ∷ []), rest.end)
+
+pub store_frame-requires-clause-rest : goal.store_frame-requires-clause-rest
+store_frame-requires-clause-rest g c told =
+    let closed : c.self.inside.closed ≡ false = ap (λ v. v.is_closed) c.self.view_is ∙ c.requires.open in
+    let rest = c.self.invariant.0.rest told closed in
+    rest.log_synced
+
+pub store_frame-requires-clause-end : goal.store_frame-requires-clause-end
+store_frame-requires-clause-end g c = c.self.invariant.0.end
+
+pub overflow_add-self-in-Ok : goal.overflow_add-self-in-Ok
+overflow_add-self-in-Ok g c =
+    let sound = c.self.invariant.0 in
+    record { fits = omega (arith, sound.few, sound.end, c.requires.few) }

@@ -1,4 +1,5 @@
 use Rattle.std.proofs.Common.{◌≡◌, ◌+◌, ◌∙◌, sym, ap, subst, arith, List, ℕ, false, length}
+use Rattle.std.proofs.lemmas.Bool.{false≢true}
 use Rattle.ann_types.specs.declared.entry.Entry.{Entry}
 use Rattle.ann_log.specs.Anew.{IsFrontOrText, IsWritten, held_in}
 use Rattle.ann_log.specs.LogView.{files_of, files_in, held_of, counted}
@@ -93,3 +94,10 @@ returns-clause-written g c told =
     ∙ all_counted t c.items.result.now (D.seen new) (c.in-Ok.ensures.text.text told) in
     subst (λ e. IsWritten (held_in i.params i.book c.args.base.now e) (i.generation + 1) (D.seen c.swap.new.x)) (sym entries)
     (subst (λ f. IsWritten (held_in i.params i.book c.args.base.now c.items.result.now) (i.generation + 1) (D.seen f)) (sym c.swap.ensures.x_after) (c.in-Ok.ensures.written told))
+
+pub invariant_of-self : goal.invariant_of-self
+invariant_of-self g c =
+    let sound = c.self.invariant.0 in (
+      record { said = sound.said; end = sound.end; few = sound.few; whole = sound.whole; rest = λ told open_now. absurd (false≢true (sym open_now)) },
+      c.write_text-written.ensures.room,
+    )
