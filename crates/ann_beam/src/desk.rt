@@ -22,6 +22,20 @@ pub struct Desk {
     pub(crate) ranking: Ranking,
 }
 
+/// The pools of a desk, without items.
+fn pools(alloc: Global) -> Result<(Pool, Pool), AllocError>
+    ensures { IfOk result (λ pools. pools.0 ≡ record { limit = 1000; items = []; known = [] }) }
+{
+    Ok((Pool::with_room(alloc)?, Pool::with_room(alloc)?))
+}
+
+/// The tables and the ranking of a desk, without points.
+fn tables_and_ranking(alloc: Global) -> Result<(Tables, Ranking), AllocError>
+    ensures { IfOk result (λ both. both.1 ≡ record { limit = 1000; points = [] }) }
+{
+    Ok((Tables::with_room(alloc)?, Ranking::with_room(alloc)?))
+}
+
 impl Desk {
     ghost use Rattle.ann_beam.specs.Desk.{page_of, result_of};
 
@@ -30,12 +44,14 @@ impl Desk {
         ensures pool { IfOk result (λ desk. desk.pool ≡ record { limit = 1000; items = []; known = [] }) }
         ensures result { IfOk result (λ desk. result_of desk ≡ record { limit = 1000; points = [] }) }
     {
+        let (pool, guided) = pools(alloc)?;
+        let (tables, ranking) = tables_and_ranking(alloc)?;
         Ok(Desk {
-            pool: Pool::with_room(alloc)?,
-            guided: Pool::with_room(alloc)?,
-            tables: Tables::with_room(alloc)?,
+            pool,
+            guided,
+            tables,
             page: [0; 4096],
-            ranking: Ranking::with_room(alloc)?,
+            ranking,
         })
     }
 

@@ -302,3 +302,11 @@ keep_distinct rule apart p xs = keep_distinct_from rule apart p (apart p) [] (in
 
 pub rows_inside : (size : ℕ) (items : List Candidate) → All (λ row. row < size) (map row_of items) → All (λ (c : Candidate). c.row < size) items
 rows_inside size items a = λ k d l. subst (λ (n : ℕ). n < size) (row_at items k d l) (a k (row_of d) (let m = length-rows items in omega arith))
+
+-- ---- A kept row that leaves a candidate out
+
+-- the row at i leaves c out, and so one of those from i on does
+pub covered_here : (rule : Rule) (apart : ℕ → ℕ → ℕ) (p c : ℕ) (kept : List ℕ) (i : ℕ) → i < length kept → rule.a * rule.a * apart (get_or kept i 0) c ≤ rule.b * rule.b * apart p c → covered rule apart p (drop i kept) c ≡ true
+covered_here rule apart p c [] i within out = absurd (omega arith)
+covered_here rule apart p c (k ∷ ks) zero within out = ap (λ t. t || covered rule apart p ks c) (le-leb _ _ out)
+covered_here rule apart p c (k ∷ ks) (suc i) within out = covered_here rule apart p c ks i (omega arith) out

@@ -49,7 +49,6 @@ fn place_of(parts: &[Part], name: &[u8]) -> Option<usize>
 }
 
 /// A name of its own, of a word whose bytes may all stand in a name.
-#[tactic(auto, using(crate::proofs::Names::name_byte_at))]
 fn name_of(alloc: Global, word: &[u8]) -> Result<String, AllocError>
     requires { list_all is_name_byte word.now ≡ true }
     ensures { IfOk result (λ name. string_bytes name ≡ word.now) }

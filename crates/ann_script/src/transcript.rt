@@ -131,6 +131,15 @@ fn write_reply(text: &mut String, reply: &Reply) -> Result<(), AllocError>
     }
 }
 
+/// Writes the reply to a client's command, of which `command` is the number from 1, and the end of the line.
+fn write_line(text: &mut String, name: &str, command: u32, reply: &Reply) -> Result<(), AllocError>
+    ensures { OnOk result (string_bytes text.new ≡ string_bytes text.old ++ line_text name.now command reply.now) }
+{
+    write!(text, "{name} {command} ")?;
+    write_reply(text, reply)?;
+    text.push_str("\n")
+}
+
 impl Transcript {
     /// A transcript without lines.
     pub fn new(alloc: Global) -> Transcript
@@ -150,9 +159,7 @@ impl Transcript {
         ensures err { OnErr result (self.new ≡ self.old) }
     {
         self.line.clear();
-        write!(self.line, "{name} {command} ")?;
-        write_reply(&mut self.line, reply)?;
-        self.line.push_str("\n")?;
+        write_line(&mut self.line, name, command, reply)?;
         self.text.push_str(&self.line)
     }
 
