@@ -89,8 +89,26 @@ fn without(bytes: &[u8], cut: usize) -> &[u8] {
     &bytes[..bytes.len().saturating_sub(cut)]
 }
 
-// Whether two files with these bytes are found to hold this, both when they are opened and when they are looked into.
-// Opening cuts off the last bytes of the first file, so many; but for that both calls leave the files as they were.
+// Whether two files with these bytes are found to hold this when they are looked into, which leaves them as they were.
+fn tell(alloc: Global, first: &[u8], second: &[u8], wanted: Outcome) -> Result<bool, AllocError> {
+    let mut looked_into = files(alloc, first, second)?;
+    let found = inspected(alloc, &mut looked_into);
+    Ok(found == wanted && have(&looked_into, first, second))
+}
+
+// Whether they are found to hold this when they are opened, which cuts off the last bytes of the first file, so many.
+fn open(
+    alloc: Global,
+    first: &[u8],
+    second: &[u8],
+    wanted: Outcome,
+    cut: usize,
+) -> Result<bool, AllocError> {
+    let (found, left) = opened(alloc, files(alloc, first, second)?);
+    Ok(found == wanted && have(&left, without(first, cut), second))
+}
+
+// Whether both calls find that they hold this.
 fn answers(
     alloc: Global,
     first: &[u8],
@@ -98,32 +116,37 @@ fn answers(
     wanted: Outcome,
     cut: usize,
 ) -> Result<bool, AllocError> {
-    let mut looked_into = files(alloc, first, second)?;
-    let is_found = inspected(alloc, &mut looked_into) == wanted;
-    let (outcome, left) = opened(alloc, files(alloc, first, second)?);
+    Ok(tell(alloc, first, second, wanted)? && open(alloc, first, second, wanted, cut)?)
+}
+
+// Whether a file with these bytes is read as a log of one entry and of this generation, whichever of the two it is.
+fn is_log(alloc: Global, bytes: &[u8], generation: u64) -> Result<bool, AllocError> {
+    let found = found_in(alloc, files(alloc, bytes, &[])?);
     Ok(
-        is_found
-            && outcome == wanted
-            && have(&looked_into, first, second)
-            && have(&left, without(first, cut), second),
+        found == Some((generation, 1))
+            && answers(alloc, bytes, &[], Ok(1), 0)?
+            && answers(alloc, &[], bytes, Ok(1), 0)?,
     )
 }
 
-// A file of version 1 has neither a generation nor a base. So it is 32 bytes shorter, and its generation is 0.
-#[test]
-fn both_versions_are_read(rt: HostRuntime) -> Result<(), Fail> {
-    let alloc = rt.alloc();
-    for (front, size, generation) in [
+// The size of a file of each version, and its generation. A file of version 1 has neither a generation nor a base. So it
+// is 32 bytes shorter, and its generation is 0.
+fn wrong_version(alloc: Global) -> Result<Option<usize>, AllocError> {
+    for &(front, size, generation) in &[
         (FRONT_TWO.as_slice(), 606, 1),
         (FRONT_ONE.as_slice(), 574, 0),
     ] {
         let bytes = text(alloc, front, &FRAME)?;
-        assert_eq!(rt; bytes.len(), size);
-        assert!(rt; answers(alloc, &bytes, &[], Ok(1), 0)?, "{size}");
-        assert!(rt; answers(alloc, &[], &bytes, Ok(1), 0)?, "{size}");
-        let there = files(alloc, &bytes, &[])?;
-        assert_eq!(rt; found_at(alloc, &there, 0)?, Some((generation, 1)));
+        if bytes.len() != size || !is_log(alloc, &bytes, generation)? {
+            return Ok(Some(size));
+        }
     }
+    Ok(None)
+}
+
+#[test]
+fn both_versions_are_read(rt: HostRuntime) -> Result<(), Fail> {
+    assert_eq!(rt; wrong_version(rt.alloc())?, None);
     Ok(())
 }
 
@@ -218,6 +241,17 @@ const FIELDS_ONE: [(usize, u8, bool); 8] = [
     (41, 9, true),
 ];
 
+// Whether a file with this byte among its fields is answered so.
+fn field_answers(
+    alloc: Global,
+    whole: &[u8],
+    (place, byte, is_log): (usize, u8, bool),
+) -> Result<bool, AllocError> {
+    let bytes = changed(alloc, whole, place, byte)?;
+    let wanted = if is_log { Ok(1) } else { Err(OpenWhy::NoIndex) };
+    answers(alloc, &bytes, &[], wanted, 0)
+}
+
 // The first row of a table of fields that is answered otherwise.
 fn wrong_row(
     alloc: Global,
@@ -225,11 +259,26 @@ fn wrong_row(
     rows: &[(usize, u8, bool)],
 ) -> Result<Option<(usize, u8)>, AllocError> {
     let whole = text(alloc, front, &FRAME)?;
-    for &(place, byte, is_log) in rows {
-        let bytes = changed(alloc, &whole, place, byte)?;
-        let wanted = if is_log { Ok(1) } else { Err(OpenWhy::NoIndex) };
-        if !answers(alloc, &bytes, &[], wanted, 0)? {
-            return Ok(Some((place, byte)));
+    for &row in rows {
+        if !field_answers(alloc, &whole, row)? {
+            return Ok(Some((row.0, row.1)));
+        }
+    }
+    Ok(None)
+}
+
+// Each front with the tables of its fields.
+fn wrong_field(alloc: Global) -> Result<Option<(usize, u8)>, AllocError> {
+    let based = based();
+    for &(front, rows) in &[
+        (FRONT_TWO.as_slice(), FIELDS.as_slice()),
+        (FRONT_TWO.as_slice(), FIELDS_TWO.as_slice()),
+        (based.as_slice(), FIELDS_BASED.as_slice()),
+        (FRONT_ONE.as_slice(), FIELDS.as_slice()),
+        (FRONT_ONE.as_slice(), FIELDS_ONE.as_slice()),
+    ] {
+        if let Some(row) = wrong_row(alloc, front, rows)? {
+            return Ok(Some(row));
         }
     }
     Ok(None)
@@ -237,30 +286,39 @@ fn wrong_row(
 
 #[test]
 fn a_changed_field_is_no_index(rt: HostRuntime) -> Result<(), Fail> {
-    let alloc = rt.alloc();
-    assert_eq!(rt; wrong_row(alloc, &FRONT_TWO, &FIELDS)?, None);
-    assert_eq!(rt; wrong_row(alloc, &FRONT_TWO, &FIELDS_TWO)?, None);
-    assert_eq!(rt; wrong_row(alloc, &based(), &FIELDS_BASED)?, None);
-    assert_eq!(rt; wrong_row(alloc, &FRONT_ONE, &FIELDS)?, None);
-    assert_eq!(rt; wrong_row(alloc, &FRONT_ONE, &FIELDS_ONE)?, None);
+    assert_eq!(rt; wrong_field(rt.alloc())?, None);
     Ok(())
 }
 
-// The file ends before its first gate, within the frame, or before the gate behind it.
+// The first end at which a cut file is answered otherwise. It lies before the first gate, within the frame, or before the
+// gate behind it.
+fn wrong_end(alloc: Global, whole: &[u8]) -> Result<Option<usize>, AllocError> {
+    for end in 0..whole.len() {
+        let why = match whole.len() - end {
+            1 => OpenWhy::BadLog { entry: 1 },
+            2..=20 => OpenWhy::BadLog { entry: 0 },
+            _ => OpenWhy::NoIndex,
+        };
+        if !answers(alloc, &whole[..end], &[], Err(why), 0)? {
+            return Ok(Some(end));
+        }
+    }
+    Ok(None)
+}
+
+fn wrong_end_of(alloc: Global, front: &[u8]) -> Result<Option<usize>, AllocError> {
+    let whole = text(alloc, front, &FRAME)?;
+    wrong_end(alloc, &whole)
+}
+
 #[test]
 fn a_cut_file_is_refused(rt: HostRuntime) -> Result<(), Fail> {
     let alloc = rt.alloc();
-    for front in [FRONT_TWO.as_slice(), FRONT_ONE.as_slice()] {
-        let whole = text(alloc, front, &FRAME)?;
-        for end in 0..whole.len() {
-            let why = match whole.len() - end {
-                1 => OpenWhy::BadLog { entry: 1 },
-                2..=20 => OpenWhy::BadLog { entry: 0 },
-                _ => OpenWhy::NoIndex,
-            };
-            assert!(rt; answers(alloc, &whole[..end], &[], Err(why), 0)?, "{end}");
-        }
-    }
+    let ends = (
+        wrong_end_of(alloc, &FRONT_TWO)?,
+        wrong_end_of(alloc, &FRONT_ONE)?,
+    );
+    assert_eq!(rt; ends, (None, None));
     Ok(())
 }
 
@@ -288,27 +346,43 @@ const FRAMES: [(usize, u8, Outcome, usize); 18] = [
     (6, 9, Ok(1), 0),
 ];
 
-#[test]
-fn a_changed_frame_is_read(rt: HostRuntime) -> Result<(), Fail> {
-    let alloc = rt.alloc();
-    for front in [FRONT_TWO.as_slice(), FRONT_ONE.as_slice()] {
-        for (place, byte, wanted, cut) in FRAMES {
-            let bytes = text(alloc, front, &changed(alloc, &FRAME, place, byte)?)?;
-            assert!(rt; answers(alloc, &bytes, &[], wanted, cut)?, "{place} {byte}");
+// Whether a log with this byte in its frame is answered so.
+fn frame_answers(
+    alloc: Global,
+    front: &[u8],
+    (place, byte, wanted, cut): (usize, u8, Outcome, usize),
+) -> Result<bool, AllocError> {
+    let frame = changed(alloc, &FRAME, place, byte)?;
+    let bytes = text(alloc, front, &frame)?;
+    answers(alloc, &bytes, &[], wanted, cut)
+}
+
+fn wrong_frame(alloc: Global) -> Result<Option<(usize, u8)>, AllocError> {
+    for &row in &FRAMES {
+        if !frame_answers(alloc, &FRONT_TWO, row)? || !frame_answers(alloc, &FRONT_ONE, row)? {
+            return Ok(Some((row.0, row.1)));
         }
     }
+    Ok(None)
+}
+
+#[test]
+fn a_changed_frame_is_read(rt: HostRuntime) -> Result<(), Fail> {
+    assert_eq!(rt; wrong_frame(rt.alloc())?, None);
     Ok(())
 }
 
-// The entries of a log on a base at position 11 are counted from there.
+// Whether a log on a base at position 11, with this byte in its frame, has its first bad entry there.
+fn is_bad_at(alloc: Global, place: usize, byte: u8, entry: u64) -> Result<bool, AllocError> {
+    let wanted = Err(OpenWhy::BadLog { entry });
+    frame_answers(alloc, &based(), (place, byte, wanted, 0))
+}
+
 #[test]
 fn a_bad_entry_is_counted_from_the_base(rt: HostRuntime) -> Result<(), Fail> {
     let alloc = rt.alloc();
-    for (place, byte, entry) in [(5, 6, 11), (20, 1, 12)] {
-        let bytes = text(alloc, &based(), &changed(alloc, &FRAME, place, byte)?)?;
-        let wanted = Err(OpenWhy::BadLog { entry });
-        assert!(rt; answers(alloc, &bytes, &[], wanted, 0)?, "{entry}");
-    }
+    let answers = (is_bad_at(alloc, 5, 6, 11)?, is_bad_at(alloc, 20, 1, 12)?);
+    assert_eq!(rt; answers, (true, true));
     Ok(())
 }
 
@@ -331,21 +405,38 @@ fn front_of(made: u8, generation: u8) -> [u8; 61] {
     front
 }
 
+// Whether a log with an entry and one without are answered so.
+fn pair_answers(
+    alloc: Global,
+    first: &[u8],
+    second: &[u8],
+    wanted: Outcome,
+) -> Result<bool, AllocError> {
+    let first = text(alloc, first, &FRAME)?;
+    let second = text(alloc, second, &[0])?;
+    answers(alloc, &first, &second, wanted, 0)
+}
+
+fn wrong_pair(alloc: Global) -> Result<Option<(u8, u8, u8, u8)>, AllocError> {
+    for &(made_first, first, made_second, second, wanted) in &PAIRS {
+        let old = front_of(made_first, first);
+        let new = front_of(made_second, second);
+        if !pair_answers(alloc, &old, &new, wanted)? {
+            return Ok(Some((made_first, first, made_second, second)));
+        }
+    }
+    Ok(None)
+}
+
 #[test]
 fn the_newer_file_is_the_log(rt: HostRuntime) -> Result<(), Fail> {
     let alloc = rt.alloc();
-    for (made_first, first, made_second, second, wanted) in PAIRS {
-        let old = text(alloc, &front_of(made_first, first), &FRAME)?;
-        let new = text(alloc, &front_of(made_second, second), &[0])?;
-        assert!(rt;
-            answers(alloc, &old, &new, wanted, 0)?,
-            "{made_first} {first} {made_second} {second}"
-        );
-    }
-    // A file of version 1 is the older one.
-    let old = text(alloc, &FRONT_ONE, &FRAME)?;
-    let new = text(alloc, &FRONT_TWO, &[0])?;
-    assert!(rt; answers(alloc, &old, &new, Ok(0), 0)?);
+    let answers = (
+        wrong_pair(alloc)?,
+        // A file of version 1 is the older one.
+        pair_answers(alloc, &FRONT_ONE, &FRONT_TWO, Ok(0))?,
+    );
+    assert_eq!(rt; answers, (None, true));
     Ok(())
 }
 
@@ -362,14 +453,28 @@ fn failing_files(
     })
 }
 
-// How many entries an image of these files is opened with.
-fn reopened(alloc: Global, files: &Files<MemoryFile>, chooser: u64) -> Result<Outcome, AllocError> {
-    let image = Files {
+// What a crash may leave of these files.
+fn image(files: &Files<MemoryFile>, chooser: u64) -> Result<Files<MemoryFile>, AllocError> {
+    Ok(Files {
         first: files.first.images(chooser)?,
         second: files.second.images(chooser)?,
-    };
-    let (found, _files) = opened(alloc, image);
-    Ok(found)
+    })
+}
+
+// Whether each of twenty images of these files is opened with one of these outcomes.
+fn images_have(
+    alloc: Global,
+    files: &Files<MemoryFile>,
+    one: Outcome,
+    other: Outcome,
+) -> Result<bool, AllocError> {
+    for chooser in 0..20 {
+        let (found, _files) = opened(alloc, image(files, chooser)?);
+        if found != one && found != other {
+            return Ok(false);
+        }
+    }
+    Ok(true)
 }
 
 // Three bytes stand behind the last gate of a log. The calls of its first file and of the second that fail while it is
@@ -387,68 +492,122 @@ const OPENING: [(u64, u64, usize); 9] = [
     (0, 3, 0),
 ];
 
-#[test]
-fn a_failing_call_of_opening_keeps_the_log(rt: HostRuntime) -> Result<(), Fail> {
-    let alloc = rt.alloc();
-    let mut bytes = changed(alloc, &text(alloc, &FRONT_TWO, &FRAME)?, 605, 0x7f)?;
-    bytes.extend_from_slice(&[15, 0, 0])?;
-    assert!(rt; answers(alloc, &bytes, &[], Ok(1), 3)?);
-    for (first, second, cut) in OPENING {
-        let fails = first != 0 || second != 0;
-        let wanted = if fails { Err(OpenWhy::Disk) } else { Ok(1) };
-        let (found, left) = opened(alloc, failing_files(alloc, &bytes, first, second)?);
-        assert_eq!(rt; found, wanted, "{first} {second}");
-        assert!(rt; have(&left, without(&bytes, cut), &[]), "{first} {second}");
-        for chooser in 0..20 {
-            let found = reopened(alloc, &left, chooser)?;
-            assert_eq!(rt; found, Ok(1), "{first} {second} {chooser}");
+// Whether opening with these failing calls leaves so many bytes fewer, and the entry.
+fn opening_keeps(
+    alloc: Global,
+    bytes: &[u8],
+    (first, second, cut): (u64, u64, usize),
+) -> Result<bool, AllocError> {
+    let fails = first != 0 || second != 0;
+    let wanted = if fails { Err(OpenWhy::Disk) } else { Ok(1) };
+    let (found, left) = opened(alloc, failing_files(alloc, bytes, first, second)?);
+    let is_left = found == wanted && have(&left, without(bytes, cut), &[]);
+    if !is_left {
+        return Ok(false);
+    }
+    images_have(alloc, &left, Ok(1), Ok(1))
+}
+
+fn wrong_opening(alloc: Global, bytes: &[u8]) -> Result<Option<(u64, u64)>, AllocError> {
+    for &row in &OPENING {
+        if !opening_keeps(alloc, bytes, row)? {
+            return Ok(Some((row.0, row.1)));
         }
     }
+    Ok(None)
+}
+
+// A log whose last gate is closed, with three bytes behind it.
+fn text_with_rest(alloc: Global) -> Result<Vec<u8>, AllocError> {
+    let frame = changed(alloc, &FRAME, 20, 0x7f)?;
+    let mut bytes = text(alloc, &FRONT_TWO, &frame)?;
+    bytes.extend_from_slice(&[15, 0, 0])?;
+    Ok(bytes)
+}
+
+fn opening_is_told(alloc: Global) -> Result<(bool, Option<(u64, u64)>), AllocError> {
+    let bytes = text_with_rest(alloc)?;
+    Ok((
+        answers(alloc, &bytes, &[], Ok(1), 3)?,
+        wrong_opening(alloc, &bytes)?,
+    ))
+}
+
+#[test]
+fn a_failing_call_of_opening_keeps_the_log(rt: HostRuntime) -> Result<(), Fail> {
+    assert_eq!(rt; opening_is_told(rt.alloc())?, (true, None));
     Ok(())
+}
+
+// Whether looking into a log with these failing calls leaves its files as they were.
+fn looking_keeps(alloc: Global, bytes: &[u8], first: u64, second: u64) -> Result<bool, AllocError> {
+    let mut looked_into = failing_files(alloc, bytes, first, second)?;
+    let found = inspected(alloc, &mut looked_into);
+    Ok(found == Err(OpenWhy::Disk) && have(&looked_into, bytes, &[]))
+}
+
+fn wrong_looking(alloc: Global) -> Result<Option<(u64, u64)>, AllocError> {
+    let bytes = text(alloc, &FRONT_TWO, &FRAME)?;
+    for &(first, second) in &[(1, 0), (2, 0), (0, 1), (0, 2)] {
+        if !looking_keeps(alloc, &bytes, first, second)? {
+            return Ok(Some((first, second)));
+        }
+    }
+    Ok(None)
 }
 
 #[test]
 fn a_failing_call_of_looking_into_changes_nothing(rt: HostRuntime) -> Result<(), Fail> {
-    let alloc = rt.alloc();
-    let bytes = text(alloc, &FRONT_TWO, &FRAME)?;
-    for (first, second) in [(1, 0), (2, 0), (0, 1), (0, 2)] {
-        let mut looked_into = failing_files(alloc, &bytes, first, second)?;
-        let found = inspected(alloc, &mut looked_into);
-        assert_eq!(rt; found, Err(OpenWhy::Disk), "{first} {second}");
-        assert!(rt; have(&looked_into, &bytes, &[]), "{first} {second}");
-    }
+    assert_eq!(rt; wrong_looking(rt.alloc())?, None);
     Ok(())
 }
 
-// A call of the first file fails: 1 to 3 are of opening, and four each of an append. Up to three entries are appended to
-// the one that is there.
-#[test]
-fn a_failing_call_closes_the_log(rt: HostRuntime) -> Result<(), Fail> {
-    let alloc = rt.alloc();
-    let bytes = text(alloc, &FRONT_TWO, &FRAME)?;
-    for failing in 4..=16 {
-        let Ok((mut log, _entries)) = Log::open(alloc, failing_files(alloc, &bytes, failing, 0)?)
-        else {
-            return Err(Fail::from("not opened"));
-        };
-        let whole = (failing - 4) / 4;
-        for _turn in 0..3 {
-            if !log.is_closed() {
-                let _answer = log.append(&[Entry::Begin { by: 2 }]);
-            }
-        }
-        assert_eq!(rt; log.count(), 1 + whole, "{failing}");
-        assert_eq!(rt; log.is_closed(), failing < 16, "{failing}");
-        let left = log.into_files();
-        for chooser in 0..20 {
-            let found = reopened(alloc, &left, chooser)?;
-            let few = 1 + whole as usize;
-            assert!(rt;
-                found == Ok(few) || failing < 16 && found == Ok(few + 1),
-                "{failing} {chooser}"
-            );
+// Appends three entries, as long as the log isn't closed.
+fn append_three(log: &mut Log<MemoryFile>) {
+    for _turn in 0..3 {
+        if !log.is_closed() {
+            let _answer = log.append(&[Entry::Begin { by: 2 }]);
         }
     }
+}
+
+// The position behind the last entry of a log to which three entries were appended, whether it is closed, and its files.
+fn appended(alloc: Global, files: Files<MemoryFile>) -> (u64, bool, Files<MemoryFile>) {
+    match Log::open(alloc, files) {
+        Ok((mut log, _entries)) => {
+            append_three(&mut log);
+            (log.count(), log.is_closed(), log.into_files())
+        }
+        Err(refused) => (0, true, refused.files),
+    }
+}
+
+// Up to three entries are appended to the one that is there, and this call of the first file fails: 1 to 3 are of opening,
+// and four each of an append. So the log has one entry for each four calls, and an image maybe one more.
+fn appending_keeps(alloc: Global, bytes: &[u8], failing: u64) -> Result<bool, AllocError> {
+    let (count, is_closed, left) = appended(alloc, failing_files(alloc, bytes, failing, 0)?);
+    let is_told = count == failing / 4 && is_closed == (failing < 16);
+    let one = (failing / 4) as usize;
+    let other = if failing < 16 { one + 1 } else { one };
+    if !is_told {
+        return Ok(false);
+    }
+    images_have(alloc, &left, Ok(one), Ok(other))
+}
+
+fn wrong_appending(alloc: Global) -> Result<Option<u64>, AllocError> {
+    let bytes = text(alloc, &FRONT_TWO, &FRAME)?;
+    for failing in 4..=16 {
+        if !appending_keeps(alloc, &bytes, failing)? {
+            return Ok(Some(failing));
+        }
+    }
+    Ok(None)
+}
+
+#[test]
+fn a_failing_call_closes_the_log(rt: HostRuntime) -> Result<(), Fail> {
+    assert_eq!(rt; wrong_appending(rt.alloc())?, None);
     Ok(())
 }
 
@@ -471,55 +630,72 @@ const MAKING: [(u64, u64); 15] = [
     (0, 4),
 ];
 
-#[test]
-fn a_failing_call_leaves_no_index(rt: HostRuntime) -> Result<(), Fail> {
-    let alloc = rt.alloc();
-    let mut bytes = text(alloc, &FRONT_TWO, &FRAME)?;
-    let found = Preamble::read(alloc, &bytes)?.expect(&rt, "a preamble");
-    bytes.resize(585, 0)?;
-    bytes.push(0)?;
-    for (first, second) in MAKING {
-        let files = failing_files(alloc, &[], first, second)?;
-        let fails = first != 0 || second != 0;
-        let left = match Log::make(alloc, files, &found.params, found.book.bytes()) {
-            Ok(log) => {
-                let files = log.into_files();
-                assert!(rt;
-                    !fails && files.first.bytes() == &bytes[..],
-                    "{first} {second}"
-                );
-                files
-            }
-            Err(MakeRefused { why, files }) => {
-                assert!(rt; fails && why == MakeWhy::Disk, "{first} {second}");
-                files
-            }
-        };
-        for chooser in 0..20 {
-            let outcome = reopened(alloc, &left, chooser)?;
-            assert!(rt;
-                outcome == Ok(0) || fails && outcome == Err(OpenWhy::NoIndex),
-                "{first} {second} {chooser}"
-            );
+// How making a log ends, and its files.
+type Made = (Result<(), MakeWhy>, Files<MemoryFile>);
+
+// Makes a log in these files, with the parameters and the codebook of the preamble that these bytes begin with. Where
+// there is no memory for them, that is the answer.
+fn made(alloc: Global, bytes: &[u8], files: Files<MemoryFile>) -> Made {
+    let Ok(Some(found)) = Preamble::read(alloc, bytes) else {
+        return (Err(MakeWhy::Memory), files);
+    };
+    match Log::make(alloc, files, &found.params, found.book.bytes()) {
+        Ok(log) => (Ok(()), log.into_files()),
+        Err(MakeRefused { why, files }) => (Err(why), files),
+    }
+}
+
+// Whether making a log with these failing calls leaves no index or an empty one, and without them these bytes.
+fn making_leaves(
+    alloc: Global,
+    bytes: &[u8],
+    (first, second): (u64, u64),
+) -> Result<bool, AllocError> {
+    let (answer, left) = made(alloc, bytes, failing_files(alloc, &[], first, second)?);
+    let fails = first != 0 || second != 0;
+    let (is_told, other) = if fails {
+        (answer == Err(MakeWhy::Disk), Err(OpenWhy::NoIndex))
+    } else {
+        (answer == Ok(()) && left.first.bytes() == bytes, Ok(0))
+    };
+    if !is_told {
+        return Ok(false);
+    }
+    images_have(alloc, &left, Ok(0), other)
+}
+
+// What is made is a preamble and a closed gate.
+fn wrong_making(alloc: Global) -> Result<Option<(u64, u64)>, AllocError> {
+    let bytes = text(alloc, &FRONT_TWO, &[0])?;
+    for &row in &MAKING {
+        if !making_leaves(alloc, &bytes, row)? {
+            return Ok(Some(row));
         }
     }
+    Ok(None)
+}
+
+#[test]
+fn a_failing_call_leaves_no_index(rt: HostRuntime) -> Result<(), Fail> {
+    assert_eq!(rt; wrong_making(rt.alloc())?, None);
     Ok(())
+}
+
+// Whether making a log where these bytes are is refused, and leaves them.
+fn is_not_made(alloc: Global, bytes: &[u8]) -> Result<bool, AllocError> {
+    let (answer, left) = made(alloc, bytes, failing_files(alloc, bytes, 0, 0)?);
+    Ok(answer == Err(MakeWhy::IndexThere) && left.first.bytes() == bytes)
+}
+
+fn no_other_is_made(alloc: Global) -> Result<bool, AllocError> {
+    let bytes = text(alloc, &FRONT_TWO, &FRAME)?;
+    is_not_made(alloc, &bytes)
 }
 
 #[test]
 fn no_log_is_made_over_another(rt: HostRuntime) -> Result<(), Fail> {
-    let alloc = rt.alloc();
-    let bytes = text(alloc, &FRONT_TWO, &FRAME)?;
-    let found = Preamble::read(alloc, &bytes)?.expect(&rt, "a preamble");
-    let files = failing_files(alloc, &bytes, 0, 0)?;
-    match Log::make(alloc, files, &found.params, found.book.bytes()) {
-        Ok(_log) => Err(Fail::from("made")),
-        Err(MakeRefused { why, files }) => {
-            assert_eq!(rt; why, MakeWhy::IndexThere);
-            assert_eq!(rt; files.first.bytes(), &bytes[..]);
-            Ok(())
-        }
-    }
+    assert!(rt; no_other_is_made(rt.alloc())?);
+    Ok(())
 }
 
 // The base behind the Begin at position 9.
@@ -529,19 +705,11 @@ const BASE: Base = Base {
     segment: 19,
 };
 
-// The generation and the length of the list that an image of these files is opened with.
-fn found_at(
-    alloc: Global,
-    files: &Files<MemoryFile>,
-    chooser: u64,
-) -> Result<Option<(u64, u64)>, AllocError> {
-    let image = Files {
-        first: files.first.images(chooser)?,
-        second: files.second.images(chooser)?,
-    };
-    match Log::open(alloc, image) {
-        Ok((log, _entries)) => Ok(Some((log.generation(), log.count()))),
-        Err(_) => Ok(None),
+// The generation of a log that is opened, and the position behind its last entry.
+fn found_in(alloc: Global, files: Files<MemoryFile>) -> Option<(u64, u64)> {
+    match Log::open(alloc, files) {
+        Ok((log, _entries)) => Some((log.generation(), log.count())),
+        Err(_) => None,
     }
 }
 
@@ -562,41 +730,71 @@ const RENEWING: [(u64, u64); 13] = [
     (5, 0),
 ];
 
-// A log with one entry is renewed with a base and two entries.
-#[test]
-fn a_failing_call_leaves_the_old_or_the_new(rt: HostRuntime) -> Result<(), Fail> {
-    let alloc = rt.alloc();
-    let bytes = text(alloc, &FRONT_TWO, &FRAME)?;
+// Renews a log with a base and two entries, and says whether it fails and closes exactly if it is to.
+fn renews(alloc: Global, log: &mut Log<MemoryFile>, fails: bool) -> Result<bool, AllocError> {
     let mut tail = Entries::new(alloc);
     tail.push(Entry::Begin { by: 3 })?;
     tail.push(Entry::Delete { by: 3, tag: 7 })?;
-    for (first, second) in RENEWING {
-        let Ok((mut log, _entries)) = Log::open(alloc, failing_files(alloc, &bytes, first, second)?)
-        else {
-            return Err(Fail::from("not opened"));
-        };
-        if log.is_closed() || log.generation() > 1 {
-            return Err(Fail::from("not open"));
+    if log.is_closed() || log.generation() > 1 {
+        return Ok(false);
+    }
+    let answer = log.renew(&BASE, &tail);
+    Ok(answer.is_err() == fails && log.is_closed() == fails)
+}
+
+// Opens the log in these files and renews it so, and gives its files. Want of memory is no success.
+fn renewed(alloc: Global, files: Files<MemoryFile>, fails: bool) -> (bool, Files<MemoryFile>) {
+    match Log::open(alloc, files) {
+        Ok((mut log, _entries)) => {
+            let is_told = matches!(renews(alloc, &mut log, fails), Ok(true));
+            (is_told, log.into_files())
         }
-        let fails = first != 0 || second != 0;
-        let answer = log.renew(&BASE, &tail);
-        assert_eq!(rt;
-            (answer.is_err(), log.is_closed()),
-            (fails, fails),
-            "{first} {second}"
-        );
-        let left = log.into_files();
-        if !fails {
-            let sizes = (left.first.bytes().len(), left.second.bytes().len());
-            assert_eq!(rt; sizes, (0, 609));
-        }
-        for chooser in 0..20 {
-            let outcome = found_at(alloc, &left, chooser)?;
-            assert!(rt;
-                outcome == Some((2, 13)) || fails && outcome == Some((1, 1)),
-                "{first} {second} {chooser}"
-            );
+        Err(refused) => (false, refused.files),
+    }
+}
+
+// Whether each of twenty images of these files has what is new, or, where a call failed, what was there.
+fn images_are_renewed(
+    alloc: Global,
+    files: &Files<MemoryFile>,
+    fails: bool,
+) -> Result<bool, AllocError> {
+    for chooser in 0..20 {
+        let found = found_in(alloc, image(files, chooser)?);
+        if found != Some((2, 13)) && !(fails && found == Some((1, 1))) {
+            return Ok(false);
         }
     }
+    Ok(true)
+}
+
+// Whether renewing a log of one entry with these failing calls leaves the old or the new, and without them the new alone.
+fn renewing_leaves(
+    alloc: Global,
+    bytes: &[u8],
+    (first, second): (u64, u64),
+) -> Result<bool, AllocError> {
+    let fails = first != 0 || second != 0;
+    let (is_told, left) = renewed(alloc, failing_files(alloc, bytes, first, second)?, fails);
+    let sizes = (left.first.bytes().len(), left.second.bytes().len());
+    if !is_told || !fails && sizes != (0, 609) {
+        return Ok(false);
+    }
+    images_are_renewed(alloc, &left, fails)
+}
+
+fn wrong_renewing(alloc: Global) -> Result<Option<(u64, u64)>, AllocError> {
+    let bytes = text(alloc, &FRONT_TWO, &FRAME)?;
+    for &row in &RENEWING {
+        if !renewing_leaves(alloc, &bytes, row)? {
+            return Ok(Some(row));
+        }
+    }
+    Ok(None)
+}
+
+#[test]
+fn a_failing_call_leaves_the_old_or_the_new(rt: HostRuntime) -> Result<(), Fail> {
+    assert_eq!(rt; wrong_renewing(rt.alloc())?, None);
     Ok(())
 }
