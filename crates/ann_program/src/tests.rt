@@ -11,19 +11,30 @@ fn words_of(alloc: Global, line: &str) -> Result<Vec<String>, AllocError> {
     Ok(words)
 }
 
-/// The status of a run, and whether it writes this text. The reads and writes that fail are counted from 1.
-fn ends(
+/// Whether a run with these words ends with a status and writes a text. The reads and writes that fail are counted from 1.
+fn runs_so(
+    alloc: Global,
+    words: &[String],
+    script: &str,
+    (read, write): (u64, u64),
+    (status, text): (u8, &str),
+) -> Result<bool, AllocError> {
+    let mut input = MemorySource::new(alloc, script.as_bytes(), &[read])?;
+    let mut out = MemorySink::new(alloc, 5, &[write])?;
+    let ended = run_alone(alloc, words, &mut input, &mut out);
+    Ok(ended == status && out.bytes() == text.as_bytes())
+}
+
+/// The same with the words of a line.
+fn ends_so(
     alloc: Global,
     line: &str,
     script: &str,
     failing: (u64, u64),
-    text: &str,
-) -> Result<(u8, bool), AllocError> {
+    wanted: (u8, &str),
+) -> Result<bool, AllocError> {
     let words = words_of(alloc, line)?;
-    let mut input = MemorySource::new(alloc, script.as_bytes(), &[failing.0])?;
-    let mut out = MemorySink::new(alloc, 5, &[failing.1])?;
-    let status = run_alone(alloc, &words, &mut input, &mut out);
-    Ok((status, out.bytes() == text.as_bytes()))
+    runs_so(alloc, &words, script, failing, wanted)
 }
 
 /// A command line, a script, and what is written with status 0.
@@ -96,15 +107,19 @@ const RUNS: &[(&str, &str, &str)] = &[
     ),
 ];
 
+/// The first row whose run ends otherwise.
+fn wrong_run(alloc: Global) -> Result<Option<usize>, AllocError> {
+    for (row, &(line, script, text)) in RUNS.iter().enumerate() {
+        if !ends_so(alloc, line, script, (0, 0), (0, text))? {
+            return Ok(Some(row));
+        }
+    }
+    Ok(None)
+}
+
 #[test]
 fn serves_scripts(rt: HostRuntime) -> Result<(), Fail> {
-    for (line, script, text) in RUNS {
-        assert_eq!(rt;
-            ends(rt.alloc(), line, script, (0, 0), text)?,
-            (0, true),
-            "{script}"
-        );
-    }
+    assert_eq!(rt; wrong_run(rt.alloc())?, None);
     Ok(())
 }
 
@@ -136,15 +151,25 @@ const FAULTS: &[(&str, u64, u64, &str, u8)] = &[
     ("a insert 7 3 4\na search 1 4 0 0\n", 0, 2, "a 1 i", 5),
 ];
 
+/// The first row whose run ends otherwise.
+fn wrong_fault(alloc: Global) -> Result<Option<usize>, AllocError> {
+    for (row, &(script, read, write, text, status)) in FAULTS.iter().enumerate() {
+        if !ends_so(
+            alloc,
+            "once 2 2 4 1/1",
+            script,
+            (read, write),
+            (status, text),
+        )? {
+            return Ok(Some(row));
+        }
+    }
+    Ok(None)
+}
+
 #[test]
 fn tells_faults(rt: HostRuntime) -> Result<(), Fail> {
-    for (script, read, write, text, status) in FAULTS {
-        assert_eq!(rt;
-            ends(rt.alloc(), "once 2 2 4 1/1", script, (*read, *write), text)?,
-            (*status, true),
-            "{script}"
-        );
-    }
+    assert_eq!(rt; wrong_fault(rt.alloc())?, None);
     Ok(())
 }
 
@@ -169,14 +194,18 @@ const LINES: &[&str] = &[
     "once 2 2 4 1/1/1",
 ];
 
+/// The first of these lines that ends otherwise than with the usage.
+fn wrong_line(alloc: Global) -> Result<Option<usize>, AllocError> {
+    for (row, &line) in LINES.iter().enumerate() {
+        if !ends_so(alloc, line, "a search 1 4 0 0\n", (0, 0), (2, "usage\n"))? {
+            return Ok(Some(row));
+        }
+    }
+    Ok(None)
+}
+
 #[test]
 fn tells_the_usage(rt: HostRuntime) -> Result<(), Fail> {
-    for line in LINES {
-        assert_eq!(rt;
-            ends(rt.alloc(), line, "a search 1 4 0 0\n", (0, 0), "usage\n")?,
-            (2, true),
-            "{line}"
-        );
-    }
+    assert_eq!(rt; wrong_line(rt.alloc())?, None);
     Ok(())
 }
