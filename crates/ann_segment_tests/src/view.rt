@@ -1,5 +1,5 @@
-ghost use Rattle.std.specs.Prelude.{◌≡◌, ◌≤◌, ◌<◌, ◌+◌, IsTrue, false, None, Some, IsSome, All, IfOk, OnOk};
-ghost use Rattle.ann_segment.specs.Directory.{Item, item_of};
+ghost use Rattle.std.specs.Prelude.{◌≡◌, ◌≤◌, ◌<◌, ◌+◌, IsTrue, false, None, Some, All, IfOk, OnOk};
+ghost use Rattle.ann_segment.specs.Directory.{Item};
 
 use crate::beam::are_hits;
 use crate::points::{codebook, params, segment, two_points};
