@@ -46,7 +46,7 @@ fn remove_twelves(alloc: Global, dead: &mut Dead) -> Result<(), AllocError> {
     dead.remove_all(&removed)
 }
 
-// Adds 1600 behind a copy.
+// The first Pid that is told wrongly once 1600 was added behind a copy.
 fn wrong_beside_a_copy(dead: &mut Dead, pin: &DeadPin) -> Result<Option<u32>, AllocError> {
     let copy = shared(dead.copy()?);
     dead.add(1600)?;

@@ -205,7 +205,7 @@ fn fill_and_merge(
     Ok(view.can_begin() && view.segment()?.is_some() == merges)
 }
 
-// What is wanted of points at most so far away.
+// A wish for k points with the width l, near x.
 fn ask(alloc: Global, (k, l, x): (u16, u16, u8)) -> Result<Ask, Fail> {
     let vector = Vector::copy(alloc, &[x])?;
     match Ask::new(k, l, vector) {
