@@ -1,3 +1,4 @@
+pub mod Counted
 pub mod Drafts
 pub mod Held
 pub mod Seal

@@ -4,7 +4,8 @@ ghost use Rattle.std.specs.BTreeMap as tree;
 ghost use Rattle.std.specs.Ordering.{nat_cmp};
 ghost use Rattle.std.specs.FinMap as map;
 ghost use Rattle.ann_fault.specs.Calls.{IsFresh, FailsNext, CountsCall};
-ghost use Rattle.ann_fault.specs.Counts.{HasCause, next_count};
+ghost use Rattle.ann_fault.specs.Counts.{HasCause};
+ghost use Rattle.ann_vault.specs.Counted.{CountsFault};
 ghost use Rattle.ann_vault.specs.Drafts.{KeepsDrafts, KeepsOthers};
 ghost use Rattle.ann_vault.specs.Held.{IsSealOf, MayBeRemoved, MayBeSealed};
 
@@ -211,10 +212,8 @@ impl Vault for MemoryVault {
         ensures drafts { KeepsDrafts is_last self.old self.new }
         ensures fails { IsErrOf result NumbersRefused.Failed ↔ FailsNext (vault_calls self.old) }
         ensures counts { CountsCall (vault_calls self.old) (vault_calls self.new) }
-        ensures calm { (IsErrOf result NumbersRefused.Failed → ⊥)
-            → vault_faults self.new ≡ vault_faults self.old }
-        ensures failed { IsErrOf result NumbersRefused.Failed
-            → vault_faults self.new ≡ next_count (vault_faults self.old) }
+        ensures cause { CountsFault (λ why. why ≡ NumbersRefused.Failed)
+            result (vault_faults self.old) (vault_faults self.new) }
     {
         if self.calls.begin() {
             let _ = self.faults.fail();

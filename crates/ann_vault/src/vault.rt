@@ -1,7 +1,8 @@
 // Sealed bytes by number.
-ghost use Rattle.std.specs.Prelude.{◌≡◌, [], ◌++◌, ℕ, List, None, Some, OnOk, OnErr, IfOk, IsErrOf};
+ghost use Rattle.std.specs.Prelude.{◌≡◌, [], ◌++◌, ℕ, List, None, Some, OnOk, OnErr, IfOk};
 ghost use Rattle.std.specs.FinMap as map;
-ghost use Rattle.ann_fault.specs.Counts.{HasCause, next_count};
+ghost use Rattle.ann_fault.specs.Counts.{HasCause};
+ghost use Rattle.ann_vault.specs.Counted.{CountsFault};
 ghost use Rattle.ann_vault.specs.Drafts.{KeepsDrafts, KeepsOthers};
 ghost use Rattle.ann_vault.specs.Held.{Holding, IsSealOf, MayBeRemoved, MayBeSealed};
 
@@ -104,7 +105,6 @@ pub trait Vault: Drop {
         ensures same { Self.Seal.tells → held self.new ≡ held self.old }
         ensures drafts { Self.Seal.tells → KeepsDrafts is_current self.old self.new }
         // Want of memory is no fault.
-        ensures calm { (IsErrOf result NumbersRefused.Failed → ⊥) → faults self.new ≡ faults self.old }
-        ensures failed { IsErrOf result NumbersRefused.Failed → faults self.new
-            ≡ next_count (faults self.old) };
+        ensures cause { CountsFault (λ why. why ≡ NumbersRefused.Failed)
+            result (faults self.old) (faults self.new) };
 }
