@@ -6,9 +6,32 @@ ghost use Rattle.ann_insert.specs.Back.{IsBehind, AreApart, AreSameButLinks, Are
 
 use crate::gather::{add_within, gather};
 use ann_greedy::Graph;
+use ann_lanes::touched;
 use ann_prune::{Candidates, prune_newer};
 use ann_table::Table;
 use arrayvec::ArrayVec;
+
+/// A byte made of a few of the vector of each row, so that these are read side by side.
+fn touched_all(table: &Table, rows: &[u32]) -> u8
+    requires { All (λ row. row < length table.now.nodes) rows.now }
+{
+    let mut byte = 0;
+    for row in rows {
+        byte ^= touched(table.vector(*row));
+    }
+    byte
+}
+
+/// Adds rows in turn, within the room that there is, and reads a little of their vectors ahead of the prune.
+fn gather_warm(table: &Table, candidates: &mut Candidates, rows: &[u32])
+    requires inside { All (λ row. row < length table.now.nodes) rows.now }
+    requires room { length rows.now ≤ candidates.old.room }
+    ensures rows { candidates.new.rows ≡ candidates.old.rows ++ rows.now }
+    ensures room { candidates.old.room ≤ candidates.new.room + length rows.now }
+{
+    candidates.keep_warm(touched_all(table, rows));
+    gather(candidates, rows);
+}
 
 /// Links a row back to a new one: the new one is a neighbour of it, or its neighbours are what a prune keeps where they
 /// would be more than R.
@@ -35,7 +58,7 @@ fn link_back(
         table.link(row, new);
         return;
     }
-    gather(candidates, table.neighbours(row));
+    gather_warm(table, candidates, table.neighbours(row));
     add_within(candidates, new);
     prune_newer(
         table,

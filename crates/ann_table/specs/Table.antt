@@ -28,6 +28,11 @@ pub record IsNode (params : Params) (nodes : List Node) (row : ℕ) (x : Node) :
   pub settled : AreSettled (rule_of params) (apart_rows nodes) row x.newer x.links
   pub newer : x.newer ≤ length nodes
 
+-- above all neighbours of a node, and not below its `newer`
+pub record ComesLast (neighbour : ℕ) (x : Node) : Type 0 where
+  pub above : All (λ other. other < neighbour) x.links
+  pub newer : x.newer ≤ neighbour
+
 -- Pids rise with the rows and are below 2^32 - 1, and each row is sound
 pub record AreNodes (params : Params) (nodes : List Node) : Type 0 where
   pub rising : IsStrictlyIncreasing (row_pids nodes)

@@ -118,7 +118,7 @@ impl Links {
 
     /// Lists of their own that are equal to these, without room for more.
     pub(crate) fn copy(&self) -> Result<Links, AllocError>
-        ensures { IfOk result (λ copy. copy ≡ record { places = self.now.places; lists = self.now.lists; spare = 0 }) }
+        ensures { IfOk result (λ copy. copy ≡ record self.now { spare = 0 }) }
     {
         Ok(Links {
             places: self.places,
