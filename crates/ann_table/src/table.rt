@@ -75,7 +75,8 @@ impl Table {
         requires pid { All (λ node. node.pid < pid) self.old.nodes }
         requires small { pid < 4294967295 }
         requires vector { length vector.now ≡ self.old.params.d }
-        requires neighbours { let count = length self.old.nodes in AreNeighbours self.old.params count count neighbours.now }
+        requires neighbours { let count = length self.old.nodes in
+            AreNeighbours self.old.params count count neighbours.now }
         ensures params { self.new.params ≡ self.old.params }
         ensures nodes { self.new.nodes ≡ self.old.nodes ++ new_node pid tag vector.now neighbours.now ∷ [] }
         ensures spare { self.new.spare + 1 ≡ self.old.spare }
