@@ -1,6 +1,7 @@
 ghost use Rattle.std.specs.Prelude.{◌≡◌, ◌≤◌, ◌<◌, ◌++◌, ◌∷◌, [], length, All, OnOk, OnErr};
 ghost use Rattle.ann_types.specs.Put.{put as put_of};
 ghost use Rattle.ann_types.specs.Kept.{rule_of, kept as kept_by};
+ghost use Rattle.ann_types.specs.Legal.{pid_end};
 ghost use Rattle.ann_greedy.specs.Rows.{visited_rows};
 ghost use Rattle.ann_table.specs.Node.{node_at, linked, rows_of, apart_rows, row_pids, graph_of};
 ghost use Rattle.ann_insert.specs.Back.{most};
@@ -79,7 +80,7 @@ pub fn put(
     vector: &[u8],
 ) -> Result<(), AllocError>
     requires above { All (λ node. node.pid < pid) table.old.nodes }
-    requires small { pid < 4294967295 }
+    requires small { pid < pid_end }
     requires vector { length vector.now ≡ table.old.params.d }
     ensures params { table.new.params ≡ table.old.params }
 
