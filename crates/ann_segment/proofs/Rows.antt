@@ -142,7 +142,7 @@ text_is params book graph number header items first second =
 
 -- ---- the blocks before the nodes
 
-header_long : (header : Header) → length (header_bytes header) ≡ 4096
+pub header_long : (header : Header) → length (header_bytes header) ≡ 4096
 unfolding header_bytes
 header_long header = omega (arith, length-append (zeros 4064) [], length-zeros 4064)
 

@@ -1,8 +1,8 @@
 use Rattle.std.proofs.Common.{ap, ◌∙◌, refl, sym, Some, Vec, ℕ, Global}
 use Rattle.std.specs.Option.{option_map}
-use Rattle.ann_vault.specs.Memory.{seal_bytes}
+use Rattle.ann_vault.specs.Seal.{seal_bytes}
 use Rattle.ann_vault.proofs.Held.{get-held}
-use Rattle.ann_vault.proofs.memory.MemoryVault.find.Goals as goal
+use Rattle.ann_vault.proofs.shelf.Shelf.find.Goals as goal
 
 pub returns-in-None : goal.returns-in-None
 returns-in-None c = get-held c.args.self.now.sealed.entries c.args.number ∙ ap (option_map seal_bytes) (sym c.in-None.ensures.value)
