@@ -32,7 +32,7 @@ use Rattle.ann_segment.specs.Text.{row_of}
 use Rattle.ann_segment.specs.Holds.{Holds}
 use Rattle.ann_segment.proofs.Holding.{IsRowOf, point_at, has_row, names_back, below_mapped, holds_linked, holds_count, holds_row}
 use Rattle.ann_beam.specs.Ranking.{Ranked, rank, with_all}
-use Rattle.ann_beam.specs.Reads.{more_reads}
+use Rattle.ann_vault.specs.Reads.{more_reads}
 use Rattle.ann_beam.specs.Candidates.{far_row}
 use Rattle.ann_beam.specs.Visits.{IsBadNode, alive, block_at, links_in, node_in, point_in}
 use Rattle.ann_beam.specs.Quest.{Standing}

@@ -3,9 +3,9 @@ use Rattle.std.proofs.Common.{◌≡◌, ℕ, zero, suc, ◌+◌, List, refl, sy
 use Rattle.std.specs.Prelude.{Some, Result, Ok, Err}
 use Rattle.std.specs.Result.{IsErrAnd}
 use Rattle.ann_types.specs.declared.params.Params.{Params}
-use Rattle.ann_vault.specs.Causes.{Rose, next_count}
+use Rattle.ann_fault.specs.Counts.{next_count}
 use Rattle.ann_segment.specs.Segment.{SegmentView}
-use Rattle.ann_beam.specs.Reads.{more_reads, IsCalm, IsFaulty}
+use Rattle.ann_vault.specs.Reads.{more_reads}
 use Rattle.ann_beam.specs.Quest.{Standing}
 use Rattle.ann_beam.specs.Refusals.{HasRead, HasGone, IsRefusedFor}
 use Rattle.ann_beam.specs.declared.refused.SearchRefused.{SearchRefused}
@@ -15,28 +15,13 @@ pub reads_more : (n m count : ℕ) → more_reads n (more_reads m count) ≡ mor
 reads_more zero m count = ap (λ (k : ℕ). more_reads k count) (let e : m ≡ 0 + m = omega arith in e)
 reads_more (suc n) m count = ap next_count (reads_more n m count) ∙ ap (λ (k : ℕ). more_reads k count) (let e : suc (n + m) ≡ suc n + m = omega arith in e)
 
--- A count has risen after a read, whatever came before and after it.
-pub reads_rose : (n count : ℕ) → Rose count (more_reads (suc n) count)
-reads_rose zero count = omega arith
-reads_rose (suc n) count = let before = reads_rose n count in omega arith
-
--- ---- faults
-
-calm_then : (a b c : ℕ) → IsCalm a b → IsCalm b c → IsCalm a c
-calm_then a b c x y = omega arith
-
-faulty_then : (a b c : ℕ) → IsCalm a b → IsFaulty b c → IsFaulty a c
-faulty_then a b c x y = omega arith
-
--- ---- both
-
 pub read_none : (now : Standing) → HasRead now now
-read_none now = record { reads = (0, refl); calm = omega arith }
+read_none now = record { reads = (0, refl); calm = refl }
 
 pub read_then : (old now new : Standing) → HasRead old now → HasRead now new → HasRead old new
 read_then old now new a b = record {
   reads = (b.reads.0 + a.reads.0, b.reads.1 ∙ ap (more_reads b.reads.0) a.reads.1 ∙ reads_more b.reads.0 a.reads.0 old.reads);
-  calm = calm_then old.faults now.faults new.faults a.calm b.calm;
+  calm = b.calm ∙ a.calm;
 }
 
 -- a refusal behind reads that went well
@@ -44,13 +29,13 @@ pub refused_then : {S : Type 0} (tells : Type 0) (bytes : S → List ℕ) (segme
 refused_then tells bytes segment params old now new (Dimension got want) a r = r
 refused_then tells bytes segment params old now new Disk a r = record {
   reads = (r.reads.0 + a.reads.0, r.reads.1 ∙ ap (more_reads r.reads.0) a.reads.1 ∙ reads_more r.reads.0 a.reads.0 old.reads);
-  faulty = faulty_then old.faults now.faults new.faults a.calm r.faulty;
+  faulty = r.faulty ∙ ap next_count a.calm;
 }
 refused_then tells bytes segment params old now new (BadSegment block) a r = record {
   bad = r.bad;
   told = r.told;
   reads = (r.reads.0 + a.reads.0, r.reads.1 ∙ ap (more_reads (suc r.reads.0)) a.reads.1 ∙ ap next_count (reads_more r.reads.0 a.reads.0 old.reads));
-  calm = calm_then old.faults now.faults new.faults a.calm r.calm;
+  calm = r.calm ∙ a.calm;
 }
 refused_then tells bytes segment params old now new Shut a r = r
 

@@ -12,7 +12,7 @@ use Rattle.ann_types.proofs.Sets.{all_append}
 use Rattle.ann_types.proofs.Walks.{met_grows}
 use Rattle.ann_greedy.specs.Shows.{Shows, ShowsWalk}
 use Rattle.ann_beam.specs.Ranking.{Ranked, with_all}
-use Rattle.ann_beam.specs.Reads.{more_reads}
+use Rattle.ann_vault.specs.Reads.{more_reads}
 use Rattle.ann_beam.specs.Quest.{Standing}
 use Rattle.ann_beam.specs.Candidates.{HasChosen}
 use Rattle.ann_beam.specs.Visits.{alive}

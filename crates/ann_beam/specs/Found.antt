@@ -6,7 +6,7 @@ use Rattle.ann_types.specs.Rounds.{rounds, rounds_of}
 use Rattle.ann_pq.specs.Tables.{AreTablesOf}
 use Rattle.ann_segment.specs.Segment.{SegmentView}
 use Rattle.ann_beam.specs.Ranking.{Ranked, rank, with_all}
-use Rattle.ann_beam.specs.Reads.{more_reads}
+use Rattle.ann_vault.specs.Reads.{more_reads}
 use Rattle.ann_beam.specs.Quest.{Quest, Standing, HoldsIn}
 use Rattle.ann_beam.specs.Progress.{Route, Sight, HasVisited, ground_at, sight_in}
 use Rattle.ann_beam.specs.Refusals.{HasRead, IsRefusedFor}

@@ -1,5 +1,4 @@
 pub mod Ranking
-pub mod Reads
 pub mod Quest
 pub mod Visits
 pub mod Progress

@@ -10,7 +10,7 @@ use Rattle.ann_pool.specs.Pool.{PoolView}
 use Rattle.ann_greedy.specs.Shows.{Shows, ShowsWalk}
 use Rattle.ann_segment.specs.Segment.{SegmentView}
 use Rattle.ann_beam.specs.Ranking.{Ranked, with_all}
-use Rattle.ann_beam.specs.Reads.{more_reads}
+use Rattle.ann_vault.specs.Reads.{more_reads}
 use Rattle.ann_beam.specs.Quest.{Standing}
 use Rattle.ann_beam.specs.Candidates.{far_row}
 use Rattle.ann_beam.specs.Visits.{alive, judged, links_in, point_in, row_block}

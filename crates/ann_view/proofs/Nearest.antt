@@ -153,7 +153,7 @@ module _ (params : Params) (nodes : List Node) (query : List ℕ) (width : ℕ) 
       p (ap (λ (t : List ℕ). has t p) (sym (near_is params nodes query width sound)) ∙ h)
 
 -- what a walk leaves, by the rows and the query that it was given
-pub walk_left : (params : Params) (nodes : List Node) (read : Rows) (given query : List ℕ) (cleared : PoolView) (width : ℕ) (items : List Item) → items ≡ map (seen (far_row read given)) (near_rows read given cleared.limit read.start) → read ≡ rows_of params nodes → given ≡ query → cleared ≡ record { limit = width; items = []; known = [] } → items ≡ map (seen (far_row (rows_of params nodes) query)) (near_rows (rows_of params nodes) query width (first_row nodes))
+pub walk_left : (params : Params) (nodes : List Node) (read : Rows) (given query : List ℕ) (cleared : PoolView) (width : ℕ) (items : List Item) → items ≡ map (seen (far_row read given)) (near_rows read given cleared.limit read.start) → read ≡ rows_of params nodes → given ≡ query → cleared ≡ record { limit = width; items = []; met = [] } → items ≡ map (seen (far_row (rows_of params nodes) query)) (near_rows (rows_of params nodes) query width (first_row nodes))
 walk_left params nodes read given query cleared width items left same asked clear =
     left
     ∙ ap (λ (r : Rows). map (seen (far_row r given)) (near_rows r given cleared.limit r.start)) same

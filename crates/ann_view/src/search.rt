@@ -36,7 +36,8 @@ fn add_long_term<S: Sealed, E: Eye<Seal = S>, D: Deleted>(
     eye: &mut E,
     ask: &Ask,
 ) -> Result<(), SearchRefused>
-    requires { Fits (quest_of (option_map arc_value segment.now) params.now book.now (D.pids dead.now) ask.now) }
+    requires { Fits
+        (quest_of (option_map arc_value segment.now) params.now book.now (D.pids dead.now) ask.now) }
     ensures searched { IsSearched S.tells S.bytes
         (quest_of (option_map arc_value segment.now) params.now book.now (D.pids dead.now) ask.now)
         (standing desk.old (E.reads eye.old) (E.faults eye.old))
@@ -142,7 +143,8 @@ impl<S: Sealed> View<S> {
             (standing desk.new (E.reads eye.new) (E.faults eye.new)) result }
 
         // It finds the answer of this state.
-        ensures answered { S.tells → OnOk result (IsAnswered S.bytes self.now ask.now (result_of desk.new).points) }
+        ensures answered { S.tells →
+            OnOk result (IsAnswered S.bytes self.now ask.now (result_of desk.new).points) }
         ensures emptied { OnErr result ((result_of desk.new).points ≡ []) }
     {
         let params = self.temp.params();
@@ -182,7 +184,8 @@ impl<S: Sealed> View<S> {
             (standing desk.new (E.reads eye.new) (E.faults eye.new)) result }
 
         // It finds the answer of this state.
-        ensures answered { S.tells → OnOk result (IsAnswered S.bytes self.now ask.now (result_of desk.new).points) }
+        ensures answered { S.tells →
+            OnOk result (IsAnswered S.bytes self.now ask.now (result_of desk.new).points) }
         ensures emptied { OnErr result ((result_of desk.new).points ≡ []) }
     {
         self.near(desk, ask)?;

@@ -13,7 +13,7 @@ pub loop-turn-init : goal.loop-turn-init
 loop-turn-init g c = record {
   ready = record { code = c.requires.code; candidates = c.offer.ensures.candidates };
   kept = record { tables = refl; width = c.offer.ensures.limit; limit = refl };
-  read = record { reads = (0, refl); calm = omega arith };
+  read = record { reads = (0, refl); calm = refl };
   under_way = λ tells. way_begins _ _ _ _ _ _ _ _ (omega (arith, c.count-turn-end.ensures)) refl (c.offer.ensures.shows [] [] (shows_none (far_row c.args.desk.now.tables c.args.self.now.segment.now.items) c.args.desk.now.guided.limit c.args.desk.now.guided (λ i. record { limit = c.args.desk.now.guided.limit; items = c.requires.none.0 i; met = c.requires.none.1 i })));
 }
 

@@ -24,12 +24,12 @@ returns-in-Err-clause-gone g c = record {
     bad = record { row = c.args.row; within = c.requires.row; place = c.node_block-block.ensures.value; refused = search rules };
     told = search rules;
     reads = (0, c.in_ok-read.ensures.counted);
-    calm = c.in_ok-read.ensures.cause.later;
+    calm = c.in_ok-read.ensures.cause.calm;
   };
 }
 
 pub returns-in-Ok-clause-gone : goal.returns-in-Ok-clause-gone
-returns-in-Ok-clause-gone g c = record { read = record { reads = (1, c.in_ok-read.ensures.counted); calm = c.in_ok-read.ensures.cause.later }; refused = tt }
+returns-in-Ok-clause-gone g c = record { read = record { reads = (1, c.in_ok-read.ensures.counted); calm = c.in_ok-read.ensures.cause.calm }; refused = tt }
 
 pub returns-in-Ok-clause-seen : goal.returns-in-Ok-clause-seen
 returns-in-Ok-clause-seen g c = λ tells.
