@@ -1,5 +1,5 @@
 -- The results of the graphs in memory and of the long-term graph are one answer.
-use Rattle.std.proofs.Common.{◌≡◌, ℕ, true, not, List, [], ◌∷◌, ◌++◌, refl, sym, ap, ◌∙◌, subst, map, length, append_assoc}
+use Rattle.std.proofs.Common.{◌≡◌, ℕ, true, not, List, [], ◌∷◌, ◌++◌, refl, sym, ap, ◌∙◌, subst, map, append_assoc}
 use Rattle.std.specs.Prelude.{Option, Some, None, All, IsTrue}
 use Rattle.std.specs.List.{AllByRecursion, flat_map}
 use Rattle.std.proofs.lemmas.List.{map-append}
@@ -12,7 +12,7 @@ use Rattle.ann_types.specs.Graph.{Point, Graph, IsGraphOf, pids_of, tag_of, far_
 use Rattle.ann_types.specs.Merge.{without}
 use Rattle.ann_types.specs.Fold.{State, all_points}
 use Rattle.ann_types.specs.Lists.{BasedList, is_live, live_of}
-use Rattle.ann_types.specs.Answer.{found, hit, hits, answer}
+use Rattle.ann_types.specs.Answer.{hit, hits, answer}
 use Rattle.ann_types.specs.declared.ask.Ask.{Ask}
 use Rattle.ann_types.specs.declared.hit.Hit.{Hit}
 use Rattle.ann_types.specs.declared.params.Params.{Params}
@@ -29,7 +29,7 @@ use Rattle.ann_beam.proofs.Rankings.{with_all-append}
 use Rattle.ann_view.specs.Near.{AreInside}
 use Rattle.ann_view.specs.Search.{near_memory, ranked_of, near_result, quest_by, quest_in, IsAnswered, IsNearOf}
 use Rattle.ann_view.specs.View.{Shown, IsMemory, IsView, index_of, whole, segment_pids, item_pids, pids_in}
-use Rattle.ann_view.specs.Pinned.{PinnedView, pinned}
+use Rattle.ann_view.specs.Pinned.{PinnedView}
 use Rattle.ann_view.specs.Stands.{StandsFor, lti_of}
 use Rattle.ann_view.specs.Holding.{HoldsGraph}
 use Rattle.ann_view.proofs.Distinct.{Distinct, distinct_append, distinct_filter, distinct_from_each}

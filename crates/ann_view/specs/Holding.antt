@@ -1,11 +1,8 @@
 -- When a view's segment holds a long-term graph.
-use Rattle.std.specs.Prelude.{◌≡◌, ℕ, List, Option, Some, None}
-use Rattle.ann_types.specs.Graph.{Graph, empty_graph}
-use Rattle.ann_types.specs.Codes.{Book}
+use Rattle.std.specs.Prelude.{ℕ, List}
+use Rattle.ann_types.specs.Graph.{Graph}
 use Rattle.ann_types.specs.Lists.{BasedList}
 use Rattle.ann_types.specs.Fold.{fold_of, merge_of}
-use Rattle.ann_types.specs.declared.params.Params.{Params}
-use Rattle.ann_segment.specs.Segment.{SegmentView}
 use Rattle.ann_segment.specs.Holds.{Holds}
 use Rattle.ann_beam.specs.Quest.{HoldsIn}
 use Rattle.ann_view.specs.View.{Shown, index_of}

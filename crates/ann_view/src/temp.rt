@@ -245,7 +245,7 @@ impl TempIndex {
         requires { IsSome self.now.state.begun }
         ensures graphs { IfOk result (λ graphs. MatchOption self.now.state.begun ⊥
             (λ b. map (λ (f : FrozenShown). graph_of f.nodes) (map arc_value graphs.items)
-                ≡ take b.frozen self.now.state.ros)) }
+            ≡ take b.frozen self.now.state.ros)) }
         ensures params { IfOk result (λ graphs.
             All (λ (f : FrozenShown). f.params ≡ self.now.params) (map arc_value graphs.items)) }
     {

@@ -107,7 +107,7 @@ impl<S: Sealed> View<S> {
         requires { IsSome self.now.memory.begun }
         ensures graphs { IfOk result (λ graphs. MatchOption self.now.memory.begun ⊥
             (λ b. map (λ (f : FrozenShown). graph_of f.nodes) (map arc_value graphs.items)
-                ≡ take b.frozen self.now.memory.ros)) }
+            ≡ take b.frozen self.now.memory.ros)) }
         ensures params { IfOk result (λ graphs.
             All (λ (f : FrozenShown). f.params ≡ self.now.params) (map arc_value graphs.items)) }
     {

@@ -1,11 +1,8 @@
 use Rattle.std.proofs.Common.{◌≡◌, ◌∙◌, sym, ap, subst}
-use Rattle.std.specs.Arc.{arc_value}
-use Rattle.std.specs.Option.{option_map}
 use Rattle.ann_pq.specs.Codebook.{Shown as BookShown}
-use Rattle.ann_beam.specs.Desk.{standing}
-use Rattle.ann_beam.specs.Quest.{Quest, Fits, quest_of}
+use Rattle.ann_beam.specs.Quest.{Fits, quest_of}
 use Rattle.ann_beam.proofs.Searches.{searched_ok, searched_err}
-use Rattle.ann_view.specs.Pinned.{PinnedView, ArePinned, kept}
+use Rattle.ann_view.specs.Pinned.{PinnedView, kept}
 use Rattle.ann_view.specs.Search.{quest_by}
 use Rattle.ann_view.proofs.Whole.{pin_answers}
 use Rattle.ann_view.proofs.pinned.Pinned.disk.Goals as goal
