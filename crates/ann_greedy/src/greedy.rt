@@ -137,7 +137,8 @@ pub fn walk_visited<G: Graph>(
     visited: &mut Vec<u32>,
 ) -> Result<(), AllocError>
     requires { length query.now ≡ (G.rows graph.now).width }
-    ensures { let rows = G.rows graph.now in IsNoted rows query.now rows.start result pool.old pool.new visited.new.items }
+    ensures { let rows = G.rows graph.now in
+        IsNoted rows query.now rows.start result pool.old pool.new visited.new.items }
 {
     visited.clear();
     match graph.entry() {

@@ -11,8 +11,8 @@ use ann_prune::{Candidates, prune_newer};
 use ann_table::Table;
 use arrayvec::ArrayVec;
 
-/// A byte made of a few of the vector of each row, so that these are read side by side.
-fn touched_all(table: &Table, rows: &[u32]) -> u8
+/// Reads a little of the vector of each row, so that these come from memory side by side.
+fn touch_all(table: &Table, rows: &[u32]) -> u8
     requires { All (λ row. row < length table.now.nodes) rows.now }
 {
     let mut byte = 0;
@@ -29,7 +29,7 @@ fn gather_warm(table: &Table, candidates: &mut Candidates, rows: &[u32])
     ensures rows { candidates.new.rows ≡ candidates.old.rows ++ rows.now }
     ensures room { candidates.old.room ≤ candidates.new.room + length rows.now }
 {
-    candidates.keep_warm(touched_all(table, rows));
+    candidates.keep_warm(touch_all(table, rows));
     gather(candidates, rows);
 }
 
@@ -49,7 +49,10 @@ fn link_back(
     requires empty { candidates.old.rows ≡ [] }
     requires room { most ≤ candidates.old.room }
     ensures params { table.new.params ≡ table.old.params }
-    ensures nodes { table.new.nodes ≡ linked table.old.nodes row (within (rule_of table.old.params) (apart_rows table.old.nodes) row ((node_at table.old.nodes row).links ++ new ∷ [])) (node_at table.new.nodes row).newer }
+    ensures nodes { let rule = rule_of table.old.params in
+        let wanted = (node_at table.old.nodes row).links ++ new ∷ [] in
+        let links = within rule (apart_rows table.old.nodes) row wanted in
+        table.new.nodes ≡ linked table.old.nodes row links (node_at table.new.nodes row).newer }
     ensures emptied { candidates.new.rows ≡ [] }
     ensures kept { most ≤ candidates.new.room }
 {
@@ -87,7 +90,8 @@ pub(crate) fn link_all_back(
     requires room { most ≤ candidates.old.room }
     ensures params { table.new.params ≡ table.old.params }
     ensures same { AreSameButLinks table.old.nodes table.new.nodes }
-    ensures linked { (apart : ℕ → ℕ → ℕ) → AreApart apart table.old.nodes → AreLinkedBack (rule_of table.old.params) apart new rows.now table.old.nodes table.new.nodes }
+    ensures linked { (apart : ℕ → ℕ → ℕ) → AreApart apart table.old.nodes
+        → AreLinkedBack (rule_of table.old.params) apart new rows.now table.old.nodes table.new.nodes }
 {
     table.known();
     for row in rows {

@@ -19,7 +19,7 @@ fn differences_at(x: &[u8], y: &[u8], at: usize) -> u8x16
 
 /// The square of each lane.
 #[inline(always)]
-fn squares_of(differences: u8x16) -> u32x16
+pub fn squares_of(differences: u8x16) -> u32x16
     requires small { Each1 (λ difference. difference ≤ 255) differences }
     requires lanes { length differences ≡ 16 }
     ensures value { result ≡ map square differences }

@@ -5,4 +5,4 @@
 
 mod kernel;
 
-pub use kernel::{squared, touched};
+pub use kernel::{squared, squares_of, touched};

@@ -20,7 +20,7 @@ use Rattle.ann_types.proofs.Graphs.{AreLinked, IsLinked, linked_from_graph}
 use Rattle.ann_block.specs.Block.{zeros}
 use Rattle.ann_block.specs.Node.{IsNodeOf, node_bytes, node_of, judge_node}
 use Rattle.ann_block.proofs.Cleared.{length-zeros}
-use Rattle.ann_block.proofs.Rules.{same_true, not_same}
+use Rattle.ann_types.proofs.Booleans.{same_true, not_same}
 use Rattle.ann_block.proofs.Listed.{length-numbers}
 use Rattle.ann_block.proofs.Nodes.{node_accepted, node_read_back}
 use Rattle.ann_segment.specs.Directory.{Item, item_of, directory_blocks}

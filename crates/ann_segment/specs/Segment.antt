@@ -3,7 +3,7 @@ use Rattle.std.specs.Prelude.{◌≡◌, ℕ, ◌+◌, ◌*◌, ◌<◌, List, l
 use Rattle.ann_types.specs.Codes.{code}
 use Rattle.ann_types.specs.declared.params.Params.{Params}
 use Rattle.ann_block.specs.Node.{judge_node, node_of}
-use Rattle.ann_pq.specs.Codebook.{Shown}
+use Rattle.ann_pq.specs.Codebook.{CodebookView}
 use Rattle.ann_segment.specs.Directory.{Item, item_of, AreRising, directory_blocks}
 use Rattle.ann_segment.specs.declared.refused.VerifyRefused.{VerifyRefused}
 use Rattle.ann_segment.specs.declared.refused.VerifyRefused.TheVariants.{Disk, BadSegment}
@@ -34,17 +34,17 @@ abbrev pub sealed_block : List ℕ → ℕ → List ℕ
 sealed_block bytes block = slice_range bytes (4096 * block) (4096 * block + 4096)
 
 -- a page is the node block of this Pid in a row of so many, and its vector has this code over the codebook
-pub record IsNode (page : List ℕ) (pid row count : ℕ) (wanted : List ℕ) (book : Shown) (params : Params) : Type 0 where
+pub record IsNode (page : List ℕ) (pid row count : ℕ) (wanted : List ℕ) (book : CodebookView) (params : Params) : Type 0 where
   pub block : judge_node page pid row count params ≡ None
   pub dimension : length (node_of params.d page).vector ≡ book.d
   pub coded : code book.book (node_of params.d page).vector ≡ wanted
 
 -- a page is the node block of a row, and the code of its vector is the directory's
-abbrev pub IsNodeIn : {S : Type 0} → SegmentView S → ℕ → Shown → Params → List ℕ → Type 0
+abbrev pub IsNodeIn : {S : Type 0} → SegmentView S → ℕ → CodebookView → Params → List ℕ → Type 0
 IsNodeIn segment row book params page = IsNode page (item_of segment.items row).0 row (length segment.items) (item_of segment.items row).1 book params
 
 -- what verifying a page as the node block of a row answers; nothing is said of a page that wasn't read
-abbrev pub IsVerdict : {S T : Type 0} → SegmentView S → ℕ → Shown → Params → List ℕ → Result T VerifyRefused → Type 0
+abbrev pub IsVerdict : {S T : Type 0} → SegmentView S → ℕ → CodebookView → Params → List ℕ → Result T VerifyRefused → Type 0
 IsVerdict segment row book params page (Ok _) = IsNodeIn segment row book params page
 IsVerdict segment row book params page (Err (BadSegment block)) =
     (block ≡ node_block segment row) × (IsNodeIn segment row book params page → ⊥)

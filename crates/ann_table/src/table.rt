@@ -1,5 +1,6 @@
 ghost use Rattle.std.specs.Prelude.{◌≡◌, ◌≢◌, ◌≤◌, ◌<◌, ◌+◌, ◌++◌, ◌∷◌, [], length, All, IfOk, OnOk};
 ghost use Rattle.ann_types.specs.Kept.{rule_of};
+ghost use Rattle.ann_types.specs.Legal.{pid_end};
 ghost use Rattle.ann_prune.specs.Newer.{AreSettled};
 ghost use Rattle.ann_table.specs.Node.{new_node, node_at, rows_of, apart_rows, row_pid, linked};
 ghost use Rattle.ann_table.specs.Table.{ComesLast, AreNeighbours, AreNodes};
@@ -73,9 +74,10 @@ impl Table {
     pub fn add(&mut self, pid: Pid, tag: Tag, vector: &[u8], neighbours: &[u32])
         requires room { 1 ≤ self.old.spare }
         requires pid { All (λ node. node.pid < pid) self.old.nodes }
-        requires small { pid < 4294967295 }
+        requires small { pid < pid_end }
         requires vector { length vector.now ≡ self.old.params.d }
-        requires neighbours { let count = length self.old.nodes in AreNeighbours self.old.params count count neighbours.now }
+        requires neighbours { let count = length self.old.nodes in
+            AreNeighbours self.old.params count count neighbours.now }
         ensures params { self.new.params ≡ self.old.params }
         ensures nodes { self.new.nodes ≡ self.old.nodes ++ new_node pid tag vector.now neighbours.now ∷ [] }
         ensures spare { self.new.spare + 1 ≡ self.old.spare }

@@ -1,9 +1,11 @@
--- Fields one after the other.
-use Rattle.std.proofs.Common.{◌≡◌, ℕ, zero, suc, ◌+◌, ◌≤◌, ◌<◌, List, [], ◌∷◌, ◌++◌, length, take, drop, get_or, refl, sym, ap, ap₂, ◌∙◌, arith, append_assoc, length-append, length-take, length-drop}
+-- Fields one after the other: written, joined and cut.
+use Rattle.std.proofs.Common.{◌≡◌, ℕ, zero, suc, ◌+◌, ◌≤◌, List, [], ◌∷◌, ◌++◌, length, take, drop, refl, sym, ap, ap₂, ◌∙◌, arith, append_assoc, length-append, length-take}
 use Rattle.std.specs.List.{concat}
-use Rattle.std.proofs.lemmas.List.{take_at, drop_at, drop-drop, take-append-drop, get_or-drop, append-nil}
-use Rattle.ann_bytes.specs.LittleEndian.{number_of, bytes_of, field, with_field}
-use Rattle.ann_bytes.proofs.Numbers.{bytes_of-number_of}
+use Rattle.std.proofs.lemmas.List.{take_at, drop_at, drop-drop, take-append-drop, append-nil}
+use Rattle.ann_bytes.specs.LittleEndian.{field, with_field}
+use Rattle.ann_bytes.proofs.Fields.{length-with_field}
+
+-- ---- written
 
 -- what is written right behind what was written before
 pub with_field-next : (bytes first second : List ℕ) (at next : ℕ) → at ≤ length bytes → at + length first ≡ next → with_field (with_field bytes at first) next second ≡ with_field bytes at (first ++ second)
@@ -20,7 +22,24 @@ with_field-next bytes first second at next within is =
     ap₂ (λ (x y : List ℕ). x ++ second ++ y) before behind
     ∙ ap (λ (x : List ℕ). x ++ drop (at + length (first ++ second)) bytes) (append_assoc (take at bytes) first second)
 
--- ---- fields joined
+with_nothing : (bytes : List ℕ) (at : ℕ) → with_field bytes at [] ≡ bytes
+with_nothing bytes at =
+    ap₂ (λ (x : List ℕ) (n : ℕ). x ++ drop n bytes) (append-nil (take at bytes)) (omega arith) ∙ take-append-drop at bytes
+
+-- fields written one after the other from a place on
+abbrev pub laid : ℕ → List (List ℕ) → List ℕ → List ℕ
+laid at [] bytes = bytes
+laid at (new ∷ news) bytes = laid (at + length new) news (with_field bytes at new)
+
+pub laid_is : (news : List (List ℕ)) (bytes : List ℕ) (at : ℕ) → at + length (concat news) ≤ length bytes → laid at news bytes ≡ with_field bytes at (concat news)
+laid_is [] bytes at fits = sym (with_nothing bytes at)
+laid_is (new ∷ news) bytes at fits =
+    let long = length-append new (concat news) in
+    let here : at + length new ≤ length bytes = omega (arith, fits, long) in
+    laid_is news (with_field bytes at new) (at + length new) (omega (arith, fits, long, length-with_field bytes at new here))
+    ∙ with_field-next bytes new (concat news) at (at + length new) (omega (arith, here)) refl
+
+-- ---- joined
 
 -- behind the first fields the others stand
 pub drop-concat : (fields : List (List ℕ)) (i : ℕ) → drop (length (concat (take i fields))) (concat fields) ≡ concat (drop i fields)
@@ -39,6 +58,8 @@ field-concat fields i new others at n is place long =
     ∙ ap (λ (rest : List (List ℕ)). take n (concat rest)) is
     ∙ take_at new (concat others) n long
 
+-- ---- cut
+
 -- bytes from a place are a field and the bytes behind it
 pub field_first : (bytes : List ℕ) (at n next : ℕ) → at + n ≡ next → drop at bytes ≡ field bytes at n ++ drop next bytes
 field_first bytes at n next is =
@@ -53,29 +74,3 @@ cut at (n ∷ sizes) bytes = field bytes at n ∷ cut (at + n) sizes bytes
 pub concat-cut : (at : ℕ) (sizes bytes : List ℕ) → concat (cut at sizes bytes) ≡ drop at bytes
 concat-cut at [] bytes = append-nil (drop at bytes)
 concat-cut at (n ∷ sizes) bytes = ap (λ (rest : List ℕ). field bytes at n ++ rest) (concat-cut (at + n) sizes bytes) ∙ sym (field_first bytes at n (at + n) refl)
-
--- ---- fields as numbers
-
-abbrev pub IsBytes : List ℕ → Type 0
-IsBytes bytes = (i : ℕ) → get_or bytes i 0 < 256
-
-pub length-field : (bytes : List ℕ) (at n : ℕ) → at + n ≤ length bytes → length (field bytes at n) ≡ n
-length-field bytes at n within = omega (arith, length-take n (drop at bytes), length-drop at bytes, within)
-
-take_bytes : (n : ℕ) (bytes : List ℕ) → IsBytes bytes → IsBytes (take n bytes)
-take_bytes zero bytes small i = omega arith
-take_bytes (suc n) [] small i = omega arith
-take_bytes (suc n) (byte ∷ bytes) small zero = small 0
-take_bytes (suc n) (byte ∷ bytes) small (suc i) = take_bytes n bytes (λ j. small (suc j)) i
-
-pub drop_bytes : (n : ℕ) (bytes : List ℕ) → IsBytes bytes → IsBytes (drop n bytes)
-drop_bytes n bytes small i = omega (arith, get_or-drop n bytes i 0, small (n + i))
-
-pub field_bytes : (bytes : List ℕ) (at n : ℕ) → IsBytes bytes → IsBytes (field bytes at n)
-field_bytes bytes at n small = take_bytes n (drop at bytes) (drop_bytes at bytes small)
-
--- a field is the bytes of its number
-pub field_is : (bytes : List ℕ) (at n : ℕ) → IsBytes bytes → at + n ≤ length bytes → field bytes at n ≡ bytes_of n (number_of (field bytes at n))
-field_is bytes at n small within =
-    sym (bytes_of-number_of (field bytes at n) (field_bytes bytes at n small))
-    ∙ ap (λ (k : ℕ). bytes_of k (number_of (field bytes at n))) (length-field bytes at n within)
