@@ -1,5 +1,5 @@
 -- How a search ends, handed on.
-use Rattle.std.proofs.Common.{◌≡◌, ℕ, List, [], refl, sym, ap, subst}
+use Rattle.std.proofs.Common.{◌≡◌, ℕ, List, refl, sym, ap, subst}
 use Rattle.std.specs.Prelude.{Option, Some, None, Result, Ok, Err}
 use Rattle.std.specs.Result.{IsErrAnd}
 use Rattle.ann_types.specs.Graph.{Graph}

@@ -133,7 +133,7 @@ module _ (old : Temp) (params : Params) (rw : TableShown) (ros : List FrozenShow
       ap (λ (d : List ℕ). temp params (state_of rw ros d begun)) (e ∙ dead_added dead pid a)
       ∙ ap (λ (t : Temp). with_state t (deleted t.state (pid ∷ []))) is
 
-  pub ended_is : (b : Begun) (ros' : List FrozenShown) (dead' : List ℕ) → begun ≡ Some b → ros' ≡ drop b.frozen ros → dead' ≡ dead_without dead b.gone → temp params (state_of rw ros' dead' None) ≡ with_state old (switched old.state empty_graph old.state.begun)
+  pub ended_is : (b : Begun) (ros' : List FrozenShown) (dead' : List ℕ) → begun ≡ Some b → ros' ≡ drop b.frozen ros → dead' ≡ dead_without b.gone dead → temp params (state_of rw ros' dead' None) ≡ with_state old (switched old.state empty_graph old.state.begun)
   ended_is b ros' dead' begins graphs left =
       ap (λ (t : List FrozenShown). temp params (state_of rw t dead' None)) graphs
       ∙ ap (λ (t : List Graph). let s : State = record { rw = graph_of rw.nodes; ros = t; lti = empty_graph; dead = dead'; begun = None } in temp params s) (sym (drop-map (λ (f : FrozenShown). graph_of f.nodes) b.frozen ros))

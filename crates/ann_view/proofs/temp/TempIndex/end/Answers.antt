@@ -19,4 +19,4 @@ pub returns-clause-ended : goal.returns-clause-ended
 returns-clause-ended c =
     ended_is c.args.self.now c.self.inside.params c.self.inside.rw c.self.inside.ros c.self.inside.dead c.self.inside.begun c.self.view_is c.in-Some.begun c.remove_first.new.self c.remove_all.new.self c.in-Some.is
     (c.remove_first.ensures ∙ ap (λ n. drop n c.self.inside.ros) c.frozen.ensures)
-    (c.in_ok-remove_all.ensures.removed ∙ ap (without c.self.inside.dead) c.gone.ensures)
+    (c.in_ok-remove_all.ensures.removed ∙ ap (λ gone. without gone c.self.inside.dead) c.gone.ensures)
