@@ -1,13 +1,16 @@
 // A file in memory. It keeps what had been done at each sync.
-ghost use Rattle.std.specs.Prelude.{◌≡◌, ◌+◌, ◌-◌, ◌≤◌, ◌<◌, ◌^◌, ◌++◌, [], ◌∷◌, length, take, min, OnOk, OnErr, IfOk, IsErr, IsTrue, ◌↔◌, slice_range};
+ghost use Rattle.std.specs.Prelude.{◌≡◌, ◌+◌, ◌≤◌, ◌<◌, ◌^◌, ◌++◌, [], ◌∷◌, ℕ, List, length, take, OnOk, OnErr, IfOk, IsErr, ◌↔◌, slice_range};
 ghost use Rattle.std.proofs.Props.{props};
-ghost use Rattle.ann_disk.specs.Causes.{Rose, HasCause};
+ghost use Rattle.ann_fault.specs.Counts.{HasCause};
 ghost use Rattle.ann_disk.specs.File.{overwritten, Torn, Cut};
+ghost use Rattle.std.specs.List.{AllByRecursion};
+ghost use Rattle.ann_disk.specs.Chosen.{image_of};
 ghost use Rattle.ann_disk.specs.Image.{IsImage, clean, after_write, after_cut};
 ghost use Rattle.ann_disk.specs.Stretch.{unsynced_of};
 
 use crate::stretch::Stretch;
 use crate::{Failed, LogFile};
+use ann_fault::{Calls, Faults};
 use std::alloc::{AllocError, Global};
 use std::mem;
 
@@ -19,9 +22,8 @@ pub struct MemoryFile {
     bytes: Vec<u8>,
     stretch: Stretch,
     past: Vec<Stretch>,
-    failing: Vec<u64>,
-    calls: u64,
-    faults: u64,
+    calls: Calls,
+    faults: Faults,
     ghost image: { IsImage (unsynced_of stretch) bytes.items } by { Prim.hlevel props },
 }
 
@@ -50,15 +52,14 @@ impl MemoryFile {
     {
         let held = bytes.to_vec(alloc)?;
         let stretch = Stretch::new(alloc, bytes)?;
-        let failing = failing.to_vec(alloc)?;
+        let calls = Calls::new(alloc, failing)?;
         Ok(MemoryFile {
             alloc,
             bytes: held,
             stretch,
             past: Vec::new(alloc),
-            failing,
-            calls: 0,
-            faults: 0,
+            calls,
+            faults: Faults::none(),
         })
     }
 
@@ -73,9 +74,14 @@ impl MemoryFile {
     /// still unsynced: a further crash may leave any other image.
     ///
     /// The number modulo 4 says what stands where a byte is in doubt: what stood there at the last sync, what a read
-    /// gives, noise, or a mixture. The rest of the number picks the length and the noise.
+    /// gives, noise, or a mixture. The rest of the number picks the length and the noise. Numbers of 64 bits are too few
+    /// for all images; with larger ones none is left out.
     pub fn images(&self, chooser: u64) -> Result<MemoryFile, AllocError>
+        ensures picked { IfOk result (λ file. memory_bytes file ≡ image_of (memory_unsynced self.now) (memory_bytes self.now) chooser) }
         ensures image { IfOk result (λ file. IsImage (memory_unsynced self.now) (memory_bytes file)) }
+        // Each image is picked by some number.
+        ensures onto { (image : List ℕ) → IsImage (memory_unsynced self.now) image → AllByRecursion (λ byte. byte < 256) image →
+            (number : ℕ) × (image_of (memory_unsynced self.now) (memory_bytes self.now) number ≡ image) }
         ensures unsynced { IfOk result (λ file. memory_unsynced file ≡ memory_unsynced self.now) }
         ensures fresh { IfOk result (IsFresh []) }
     {
@@ -86,38 +92,14 @@ impl MemoryFile {
             bytes,
             stretch,
             past: Vec::new(self.alloc),
-            failing: Vec::new(self.alloc),
-            calls: 0,
-            faults: 0,
+            calls: Calls::new(self.alloc, &[])?,
+            faults: Faults::none(),
         })
     }
 }
 
 impl MemoryFile {
-    ghost use Rattle.ann_disk.specs.Memory.{memory_bytes, memory_unsynced, memory_past, memory_faults, FailsNext, CountsCall, HoldsSame};
-
-    // Counts a call, and says whether it is one of those that fail.
-    fn begin(&mut self) -> bool
-        ensures fails { IsTrue result ↔ FailsNext self.old }
-        ensures counts { CountsCall self.old self.new }
-        ensures same { HoldsSame self.old self.new }
-        ensures faults { self.new.faults ≡ self.old.faults }
-    {
-        self.calls = self.calls.saturating_add(1);
-        let call = self.calls;
-        self.failing.iter().any(|&number| number == call)
-    }
-
-    // Counts a fault.
-    fn fault(&mut self) -> Failed
-        ensures same { HoldsSame self.old self.new }
-        ensures calls { (self.new.calls ≡ self.old.calls) × (self.new.failing ≡ self.old.failing) }
-        ensures later { self.old.faults ≤ self.new.faults }
-        ensures rose { Rose self.old.faults self.new.faults }
-    {
-        self.faults = self.faults.saturating_add(1);
-        Failed
-    }
+    ghost use Rattle.ann_disk.specs.Memory.{memory_bytes, memory_unsynced, memory_past, HoldsSame};
 
     // Writes a piece, the front of a write of so many bytes. The whole range counts as written, whatever the answer.
     fn store(&mut self, at: u64, piece: &[u8], count: u64) -> Result<(), AllocError>
@@ -128,8 +110,7 @@ impl MemoryFile {
         ensures torn { Torn at count (memory_bytes self.old) (memory_bytes self.new) }
         ensures images { memory_unsynced self.new ≡ after_write at count (memory_unsynced self.old) }
         ensures past { memory_past self.new ≡ memory_past self.old }
-        ensures calls { (self.new.calls ≡ self.old.calls) × (self.new.failing ≡ self.old.failing) }
-        ensures faults { self.new.faults ≡ self.old.faults }
+        ensures counts { (self.new.calls ≡ self.old.calls) × (self.new.faults ≡ self.old.faults) }
     {
         self.stretch.add_write(at, count);
         overwrite(&mut self.bytes, at as usize, piece)
@@ -144,8 +125,7 @@ impl MemoryFile {
         ensures torn { Cut to (memory_bytes self.old) (memory_bytes self.new) }
         ensures images { memory_unsynced self.new ≡ after_cut to (memory_unsynced self.old) }
         ensures past { memory_past self.new ≡ memory_past self.old }
-        ensures calls { (self.new.calls ≡ self.old.calls) × (self.new.failing ≡ self.old.failing) }
-        ensures faults { self.new.faults ≡ self.old.faults }
+        ensures counts { (self.new.calls ≡ self.old.calls) × (self.new.faults ≡ self.old.faults) }
     {
         self.bytes.truncate(end as usize);
         self.stretch.add_cut(to);
@@ -156,9 +136,8 @@ impl MemoryFile {
         ensures bytes { memory_bytes self.new ≡ memory_bytes self.old }
         ensures images { OnOk result (memory_unsynced self.new ≡ clean (memory_bytes self.old)) }
         ensures past { OnOk result (memory_past self.new ≡ memory_past self.old ++ memory_unsynced self.old ∷ []) }
-        ensures err { OnErr result ((memory_unsynced self.new ≡ memory_unsynced self.old) × (memory_past self.new ≡ memory_past self.old)) }
-        ensures calls { (self.new.calls ≡ self.old.calls) × (self.new.failing ≡ self.old.failing) }
-        ensures faults { self.new.faults ≡ self.old.faults }
+        ensures err { OnErr result (HoldsSame self.old self.new) }
+        ensures counts { (self.new.calls ≡ self.old.calls) × (self.new.faults ≡ self.old.faults) }
     {
         self.past.reserve(1)?;
         let next = Stretch::new(self.alloc, &self.bytes)?;
@@ -190,8 +169,8 @@ impl LogFile for MemoryFile {
         ensures counts { CountsCall self.old self.new }
         ensures cause { HasCause (memory_faults self.old) (memory_faults self.new) result }
     {
-        if self.begin() {
-            return Err(self.fault());
+        if self.calls.begin() {
+            return Err(self.faults.fail());
         }
         Ok(self.bytes.len() as u64)
     }
@@ -204,8 +183,8 @@ impl LogFile for MemoryFile {
         ensures counts { CountsCall self.old self.new }
         ensures cause { HasCause (memory_faults self.old) (memory_faults self.new) result }
     {
-        if self.begin() {
-            return Err(self.fault());
+        if self.calls.begin() {
+            return Err(self.faults.fail());
         }
         let from = at as usize;
         buf.copy_from_slice(&self.bytes[from..from + buf.len()]);
@@ -223,14 +202,14 @@ impl LogFile for MemoryFile {
         ensures counts { CountsCall self.old self.new }
         ensures cause { HasCause (memory_faults self.old) (memory_faults self.new) result }
     {
-        if self.begin() {
+        if self.calls.begin() {
             // Half of it is written.
             let _ = self.store(at, &bytes[..bytes.len() / 2], bytes.len() as u64);
-            return Err(self.fault());
+            return Err(self.faults.fail());
         }
         match self.store(at, bytes, bytes.len() as u64) {
             Ok(()) => Ok(()),
-            Err(_) => Err(self.fault()),
+            Err(_) => Err(self.faults.fail()),
         }
     }
 
@@ -244,11 +223,11 @@ impl LogFile for MemoryFile {
         ensures counts { CountsCall self.old self.new }
         ensures cause { HasCause (memory_faults self.old) (memory_faults self.new) result }
     {
-        if self.begin() {
+        if self.calls.begin() {
             // Half of it is cut off.
             let length = self.bytes.len() as u64;
             self.shorten(to, length - (length - to) / 2);
-            return Err(self.fault());
+            return Err(self.faults.fail());
         }
         self.shorten(to, to);
         Ok(())
@@ -263,8 +242,8 @@ impl LogFile for MemoryFile {
         ensures counts { CountsCall self.old self.new }
         ensures cause { HasCause (memory_faults self.old) (memory_faults self.new) result }
     {
-        if self.begin() || self.settle().is_err() {
-            return Err(self.fault());
+        if self.calls.begin() || self.settle().is_err() {
+            return Err(self.faults.fail());
         }
         Ok(())
     }

@@ -1,6 +1,6 @@
 // Calls of a file at rest, each with the sync behind it.
 ghost use Rattle.std.specs.Prelude.{◌≡◌, ◌+◌, ◌<◌, ◌≤◌, ◌^◌, length, take, OnOk};
-ghost use Rattle.ann_disk.specs.Causes.{HasCause};
+ghost use Rattle.ann_fault.specs.Counts.{HasCause};
 ghost use Rattle.ann_disk.specs.File.{LeavesOnly, Torn, Cut, BeginsAnImage, overwritten};
 ghost use Rattle.ann_disk.specs.Image.{clean};
 
