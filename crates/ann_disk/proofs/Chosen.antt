@@ -1,11 +1,11 @@
 -- Each image is picked by some number, and no number picks anything else.
-use Rattle.std.proofs.Common.{◌≡◌, ℕ, zero, suc, ◌+◌, ◌-◌, ◌*◌, ◌/◌, ◌%◌, ◌^◌, ◌<◌, ◌≤◌, ◌==◌, ◌&&◌, nat_lt, not, if◌then◌else◌, Bool, true, false, List, [], ◌∷◌, length, get_or, refl, sym, ◌∙◌, ap, arith}
+use Rattle.std.proofs.Common.{◌≡◌, ℕ, zero, suc, ◌+◌, ◌-◌, ◌*◌, ◌/◌, ◌%◌, ◌^◌, ◌<◌, ◌≤◌, ◌==◌, ◌&&◌, nat_lt, not, if◌then◌else◌, Bool, true, false, List, [], ◌∷◌, ◌++◌, map, length, get_or, refl, sym, ◌∙◌, ap, arith}
 use Rattle.std.proofs.Math.Nat.{add-mul-div_left, add-mul-mod_self_left, mod-mod, mod-eq_of_lt, div-eq_of_lt, mul-mod_right, mul-div_right, mul_left_comm, mul_assoc}
 use Rattle.std.proofs.lemmas.Bool.{ltb-true, lt-ltb, false≢true}
 use Rattle.std.proofs.lemmas.Nat.{mod_below}
 use Rattle.std.proofs.lemmas.List.{ext_get_or}
-use Rattle.std.proofs.lemmas.List.FromFn.{length-map-range_with_len, get_or-map-range_with_len}
-use Rattle.std.specs.List.{AllByRecursion}
+use Rattle.std.proofs.lemmas.List.FromFn.{map-range_with_len_more, length-map-range_with_len, get_or-map-range_with_len}
+use Rattle.std.specs.List.{AllByRecursion, range_with_len}
 use Rattle.ann_disk.specs.Image.{Unsynced, IsImage, IsFree}
 use Rattle.ann_disk.specs.Chosen.{image_of, end_of, ends_of, byte_of, doubt, filling, filling_by, noise_of, digit}
 
@@ -66,6 +66,14 @@ image_is u seen number order =
           get_or-map-range_with_len (byte_of u seen number) 0 (end_of u number) i i 0 (omega (arith, here, long)) (omega arith)
           ∙ free_byte u seen number i there free;
     }
+
+-- one byte more
+pub one_more : (f : ℕ → ℕ) (items more : List ℕ) (place byte : ℕ) → more ≡ items ++ byte ∷ [] → items ≡ map f (range_with_len 0 place) → byte ≡ f place → more ≡ map f (range_with_len 0 (place + 1))
+one_more f items more place byte pushed sofar is =
+    pushed
+    ∙ ap (λ (l : List ℕ). l ++ byte ∷ []) sofar
+    ∙ ap (λ (b : ℕ). map f (range_with_len 0 place) ++ b ∷ []) is
+    ∙ sym (map-range_with_len_more f 0 place place (omega arith))
 
 -- a number with the digits that a function gives
 abbrev pack : (ℕ → ℕ) → ℕ → ℕ

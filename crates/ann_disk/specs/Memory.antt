@@ -1,5 +1,6 @@
 -- What a file in memory holds, and which of its calls fail.
-use Rattle.std.specs.Prelude.{◌≡◌, ℕ, List, [], map}
+use Rattle.std.specs.Prelude.{◌≡◌, ℕ, List, [], map, Result}
+use Rattle.ann_fault.specs.Counts.{HasCause}
 use Rattle.ann_fault.specs.Calls as calls
 use Rattle.ann_disk.specs.File.{IsUntouched}
 use Rattle.ann_disk.specs.Image.{Unsynced}
@@ -31,6 +32,11 @@ FailsNext file = calls.FailsNext file.calls
 -- one call more was counted
 abbrev pub CountsCall : MemoryFile → MemoryFile → Type 0
 CountsCall old new = calls.CountsCall old.calls new.calls
+
+-- a call was counted, and a fault where it failed
+pub record IsCounted {T E : Type 0} (old new : MemoryFile) (result : Result T E) : Type 0 where
+  pub counts : CountsCall old new
+  pub cause : HasCause (memory_faults old) (memory_faults new) result
 
 -- the bytes, the images and the clock are as they were
 abbrev pub HoldsSame : MemoryFile → MemoryFile → Type 0

@@ -1,7 +1,6 @@
 // A file in memory. It keeps what had been done at each sync.
 ghost use Rattle.std.specs.Prelude.{◌≡◌, ◌+◌, ◌≤◌, ◌<◌, ◌^◌, ◌++◌, [], ◌∷◌, ℕ, List, length, take, OnOk, OnErr, IfOk, IsErr, ◌↔◌, slice_range};
 ghost use Rattle.std.proofs.Props.{props};
-ghost use Rattle.ann_fault.specs.Counts.{HasCause};
 ghost use Rattle.ann_disk.specs.File.{overwritten, Torn, Cut};
 ghost use Rattle.std.specs.List.{AllByRecursion};
 ghost use Rattle.ann_disk.specs.Chosen.{image_of};
@@ -77,10 +76,12 @@ impl MemoryFile {
     /// gives, noise, or a mixture. The rest of the number picks the length and the noise. Numbers of 64 bits are too few
     /// for all images; with larger ones none is left out.
     pub fn images(&self, chooser: u64) -> Result<MemoryFile, AllocError>
-        ensures picked { IfOk result (λ file. memory_bytes file ≡ image_of (memory_unsynced self.now) (memory_bytes self.now) chooser) }
+        ensures picked { IfOk result (λ file.
+            memory_bytes file ≡ image_of (memory_unsynced self.now) (memory_bytes self.now) chooser) }
         ensures image { IfOk result (λ file. IsImage (memory_unsynced self.now) (memory_bytes file)) }
         // Each image is picked by some number.
-        ensures onto { (image : List ℕ) → IsImage (memory_unsynced self.now) image → AllByRecursion (λ byte. byte < 256) image →
+        ensures onto { (image : List ℕ) → IsImage (memory_unsynced self.now) image →
+            AllByRecursion (λ byte. byte < 256) image →
             (number : ℕ) × (image_of (memory_unsynced self.now) (memory_bytes self.now) number ≡ image) }
         ensures unsynced { IfOk result (λ file. memory_unsynced file ≡ memory_unsynced self.now) }
         ensures fresh { IfOk result (IsFresh []) }
@@ -106,7 +107,8 @@ impl MemoryFile {
         requires place { at ≤ length (memory_bytes self.old) }
         requires part { length piece.now ≤ count }
         requires end { at + count < 2 ^ 64 }
-        ensures bytes { OnOk result (memory_bytes self.new ≡ overwritten (memory_bytes self.old) at piece.now) }
+        ensures bytes { OnOk result
+            (memory_bytes self.new ≡ overwritten (memory_bytes self.old) at piece.now) }
         ensures torn { Torn at count (memory_bytes self.old) (memory_bytes self.new) }
         ensures images { memory_unsynced self.new ≡ after_write at count (memory_unsynced self.old) }
         ensures past { memory_past self.new ≡ memory_past self.old }
@@ -135,7 +137,8 @@ impl MemoryFile {
     fn settle(&mut self) -> Result<(), AllocError>
         ensures bytes { memory_bytes self.new ≡ memory_bytes self.old }
         ensures images { OnOk result (memory_unsynced self.new ≡ clean (memory_bytes self.old)) }
-        ensures past { OnOk result (memory_past self.new ≡ memory_past self.old ++ memory_unsynced self.old ∷ []) }
+        ensures past { OnOk result
+            (memory_past self.new ≡ memory_past self.old ++ memory_unsynced self.old ∷ []) }
         ensures err { OnErr result (HoldsSame self.old self.new) }
         ensures counts { (self.new.calls ≡ self.old.calls) × (self.new.faults ≡ self.old.faults) }
     {
@@ -148,7 +151,7 @@ impl MemoryFile {
 }
 
 impl LogFile for MemoryFile {
-    ghost use Rattle.ann_disk.specs.Memory.{memory_bytes, memory_unsynced, memory_past, memory_faults, FailsNext, CountsCall, HoldsSame};
+    ghost use Rattle.ann_disk.specs.Memory.{memory_bytes, memory_unsynced, memory_past, memory_faults, FailsNext, IsCounted, HoldsSame};
 
     ghost tells = { Unit {0} };
 
@@ -166,8 +169,7 @@ impl LogFile for MemoryFile {
         ensures value { IfOk result (λ n. n ≡ length (memory_bytes self.old)) }
         ensures fails { IsErr result ↔ FailsNext self.old }
         ensures same { HoldsSame self.old self.new }
-        ensures counts { CountsCall self.old self.new }
-        ensures cause { HasCause (memory_faults self.old) (memory_faults self.new) result }
+        ensures counted { IsCounted self.old self.new result }
     {
         if self.calls.begin() {
             return Err(self.faults.fail());
@@ -180,8 +182,7 @@ impl LogFile for MemoryFile {
         ensures bytes { OnOk result (buf.new ≡ slice_range (memory_bytes self.old) at (at + length buf.old)) }
         ensures fails { IsErr result ↔ FailsNext self.old }
         ensures same { HoldsSame self.old self.new }
-        ensures counts { CountsCall self.old self.new }
-        ensures cause { HasCause (memory_faults self.old) (memory_faults self.new) result }
+        ensures counted { IsCounted self.old self.new result }
     {
         if self.calls.begin() {
             return Err(self.faults.fail());
@@ -193,14 +194,16 @@ impl LogFile for MemoryFile {
 
     fn write_at(&mut self, at: u64, bytes: &[u8]) -> Result<(), Failed>
         requires { at ≤ length (memory_bytes self.old) }
-        ensures written { OnOk result (memory_bytes self.new ≡ overwritten (memory_bytes self.old) at bytes.now) }
-        ensures torn { OnErr result (Torn at (length bytes.now) (memory_bytes self.old) (memory_bytes self.new)) }
-        ensures images { memory_unsynced self.new ≡ after_write at (length bytes.now) (memory_unsynced self.old) }
+        ensures written { OnOk result
+            (memory_bytes self.new ≡ overwritten (memory_bytes self.old) at bytes.now) }
+        ensures torn { OnErr result
+            (Torn at (length bytes.now) (memory_bytes self.old) (memory_bytes self.new)) }
+        ensures images { memory_unsynced self.new
+            ≡ after_write at (length bytes.now) (memory_unsynced self.old) }
         ensures past { memory_past self.new ≡ memory_past self.old }
         ensures end { at + length bytes.now < 2 ^ 64 }
         ensures fails { FailsNext self.old → IsErr result }
-        ensures counts { CountsCall self.old self.new }
-        ensures cause { HasCause (memory_faults self.old) (memory_faults self.new) result }
+        ensures counted { IsCounted self.old self.new result }
     {
         if self.calls.begin() {
             // Half of it is written.
@@ -220,8 +223,7 @@ impl LogFile for MemoryFile {
         ensures images { memory_unsynced self.new ≡ after_cut to (memory_unsynced self.old) }
         ensures past { memory_past self.new ≡ memory_past self.old }
         ensures fails { IsErr result ↔ FailsNext self.old }
-        ensures counts { CountsCall self.old self.new }
-        ensures cause { HasCause (memory_faults self.old) (memory_faults self.new) result }
+        ensures counted { IsCounted self.old self.new result }
     {
         if self.calls.begin() {
             // Half of it is cut off.
@@ -236,11 +238,11 @@ impl LogFile for MemoryFile {
     fn sync(&mut self) -> Result<(), Failed>
         ensures bytes { memory_bytes self.new ≡ memory_bytes self.old }
         ensures images { OnOk result (memory_unsynced self.new ≡ clean (memory_bytes self.old)) }
-        ensures past { OnOk result (memory_past self.new ≡ memory_past self.old ++ memory_unsynced self.old ∷ []) }
+        ensures past { OnOk result
+            (memory_past self.new ≡ memory_past self.old ++ memory_unsynced self.old ∷ []) }
         ensures failed { OnErr result (HoldsSame self.old self.new) }
         ensures fails { FailsNext self.old → IsErr result }
-        ensures counts { CountsCall self.old self.new }
-        ensures cause { HasCause (memory_faults self.old) (memory_faults self.new) result }
+        ensures counted { IsCounted self.old self.new result }
     {
         if self.calls.begin() || self.settle().is_err() {
             return Err(self.faults.fail());

@@ -78,7 +78,8 @@ impl Stretch {
     /// One of the images, picked by a number: its end, and what stands where a byte is in doubt.
     pub fn image(&self, alloc: Global, seen: &[u8], chooser: u64) -> Result<Vec<u8>, AllocError>
         requires { self.now.low ≤ self.now.high }
-        ensures picked { IfOk result (λ image. image.items ≡ image_of (unsynced_of self.now) seen.now chooser) }
+        ensures picked { IfOk result
+            (λ image. image.items ≡ image_of (unsynced_of self.now) seen.now chooser) }
         ensures image { IfOk result (λ image. IsImage (unsynced_of self.now) image.items) }
     {
         let end = self.end(chooser);

@@ -1,23 +1,17 @@
-use Rattle.std.proofs.Common.{◌≡◌, ℕ, List, [], ◌∷◌, ◌++◌, map, ap, sym, ◌∙◌, subst, arith}
+use Rattle.std.proofs.Common.{◌≡◌, ℕ, List, map, ap, sym, ◌∙◌, subst, arith}
 use Rattle.std.specs.List.{range_with_len}
-use Rattle.std.proofs.lemmas.List.FromFn.{map-range_with_len_more}
 use Rattle.ann_disk.specs.Chosen.{byte_of, end_of}
 use Rattle.ann_disk.specs.Image.{IsImage}
 use Rattle.ann_disk.specs.Stretch.{unsynced_of}
-use Rattle.ann_disk.proofs.Chosen.{image_is}
+use Rattle.ann_disk.proofs.Chosen.{image_is, one_more}
 use Rattle.ann_disk.proofs.stretch.Stretch.image.Goals as goal
 
 pub loop-place-preserved : goal.loop-place-preserved
-loop-place-preserved c =
-    let at = byte_of (unsynced_of c.args.self.now) c.args.seen.now c.args.chooser in
-    let place = c.loop-place.place in
-    record {
-      so_far = c.in_ok-push.ensures.items
-          ∙ ap (λ (l : List ℕ). l ++ c.byte.result ∷ []) c.loop-place.invariant.so_far
-          ∙ ap (λ (byte : ℕ). map at (range_with_len 0 place) ++ byte ∷ []) c.byte.ensures
-          ∙ sym (map-range_with_len_more at 0 place place (omega arith));
-      end = c.loop-place.invariant.end;
-    }
+loop-place-preserved c = record {
+  so_far = one_more (byte_of (unsynced_of c.args.self.now) c.args.seen.now c.args.chooser) c.loop-place.image.items c.push.new.self.items c.loop-place.place c.byte.result
+      c.in_ok-push.ensures.items c.loop-place.invariant.so_far c.byte.ensures;
+  end = c.loop-place.invariant.end;
+}
 
 pub returns-clause-image : goal.returns-clause-image
 returns-clause-image c =
