@@ -11,9 +11,9 @@ ends_of u = u.high - u.low + 1
 abbrev pub end_of : Unsynced → ℕ → ℕ
 end_of u number = u.low + number / 4 % ends_of u
 
--- 64 bits of noise for a place
+-- 64 bits of noise for a place: a multiple of the golden part of 2^64
 abbrev pub noise_of : ℕ → ℕ → ℕ
-noise_of number place = (number + place) % 2 ^ 64 * 6364136223846793005 % 2 ^ 64
+noise_of number place = (number + place) % 2 ^ 64 * 11400714819323198485 % 2 ^ 64
 
 -- how a place in doubt is filled, by its noise: 0 as at the last sync, 1 as a read gives it, 2 with noise, and 3 with any
 -- of these

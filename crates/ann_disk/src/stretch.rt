@@ -23,7 +23,7 @@ fn noise(place: usize, chooser: u64) -> u64
 {
     chooser
         .wrapping_add(place as u64)
-        .wrapping_mul(6364136223846793005)
+        .wrapping_mul(11400714819323198485)
 }
 
 impl Stretch {
