@@ -1,4 +1,4 @@
-ghost use Rattle.std.specs.Prelude.{◌≡◌};
+ghost use Rattle.std.specs.Prelude.{IfOk};
 
 use ann_pool::Pool;
 use ann_prune::Candidates;
@@ -19,8 +19,12 @@ pub struct PutScratch {
 }
 
 impl PutScratch {
-    /// A scratch for inserts. The only error is want of memory.
-    pub fn new(alloc: Global) -> Result<PutScratch, AllocError> {
+    ghost use Rattle.ann_insert.specs.Scratch.{IsEmpty};
+
+    /// A scratch for inserts, without anything in it. The only error is want of memory.
+    pub fn new(alloc: Global) -> Result<PutScratch, AllocError>
+        ensures { IfOk result IsEmpty }
+    {
         Ok(PutScratch {
             pool: Pool::with_room(alloc)?,
             visited: Vec::new(alloc),

@@ -193,8 +193,3 @@ marked-set s i d a h v e m =
     set_split s i a h
     ∙ ap (λ t. take i s ++ t) (ap (λ k. a ∷ drop k s) (let k : suc i ≡ i + 1 = omega arith in k) ∙ sym (ap marked (drop_more s i d h) ∙ marked_head (get_or s i d) (drop (i + 1) s) a v e))
     ∙ sym m
-
--- a test that is not met
-pub not_true : (b : Bool) → not b ≡ true → b ≡ false
-not_true true h = absurd (false≢true h)
-not_true false h = refl
