@@ -17,8 +17,8 @@ use Rattle.ann_log.specs.Text.{Held, first_gate, StandsFor}
 use Rattle.ann_log.specs.declared.files.Files.{Files}
 use Rattle.ann_log.specs.declared.inspect.Inspected.{Inspected}
 
--- the file that is the log, the other one, and which of the two files the log is; what the log holds, its generation, and
--- whether a call has failed
+-- The file that is the log, the other one, and which of the two files the log is; what the log holds, and its generation;
+-- how many entries there are, also where the files don't tell them; and whether a call has failed.
 pub record LogView (F : Type 0) : Type 0 where
   pub log : F
   pub other : F
@@ -28,6 +28,7 @@ pub record LogView (F : Type 0) : Type 0 where
   pub base : Base
   pub generation : ℕ
   pub list : List Entry
+  pub count : ℕ
   pub is_closed : Bool
 
 -- the files of which the one on this side is the log

@@ -1,5 +1,5 @@
 -- What the two files of a log stand for.
-use Rattle.std.specs.Prelude.{◌≡◌, ℕ, ◌+◌, List, drop, Option, Some, None}
+use Rattle.std.specs.Prelude.{◌≡◌, ℕ, ◌+◌, List, take, drop, Option, Some, None}
 use Rattle.ann_types.specs.declared.params.Params.{Params}
 use Rattle.ann_types.specs.declared.entry.Entry.{Entry}
 use Rattle.ann_pq.specs.Codebook.{Shown}
@@ -28,6 +28,15 @@ first_gate s = gate_place s.fields.generation s.fields.d
 -- a file whose preamble says this stands for the frames behind it, up to the first gate that isn't open
 abbrev pub file_text : Said → List ℕ → LogText
 file_text s bytes = behind s (framed.text_of s.fields.d (drop (first_gate s) bytes))
+
+-- the place of the last gate, counted from the first
+abbrev pub gate_in : framed.Text → ℕ
+gate_in (framed.stands entries gate) = gate
+gate_in (framed.bad n) = 0
+
+-- the bytes of such a file up to its last gate, which isn't open
+abbrev pub upto_gate : Said → List ℕ → List ℕ
+upto_gate s bytes = take (first_gate s + gate_in (framed.text_of s.fields.d (drop (first_gate s) bytes)) + 1) bytes
 
 abbrev pub text_with : Option Said → List ℕ → LogText
 text_with None bytes = no_index
@@ -58,10 +67,6 @@ said_of held generation = said_in held.params held.book held.base generation
 
 abbrev pub IsNoIndex : List ℕ → List ℕ → Type 0
 IsNoIndex first second = log_text first second ≡ no_index
-
--- the entry at this position is the first that isn't wholly there
-abbrev pub IsBadLog : ℕ → List ℕ → List ℕ → Type 0
-IsBadLog position first second = log_text first second ≡ bad_log position
 
 -- the files stand for what is held, at this generation
 abbrev pub StandsAt : ℕ → Held → List ℕ → List ℕ → Type 0
