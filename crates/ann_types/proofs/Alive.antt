@@ -23,6 +23,8 @@ use Rattle.ann_types.proofs.Walks.{Inside}
 use Rattle.ann_types.proofs.Sets.{Rises, increasing_from_rises, rises_from_increasing, has_ascending, has_below, below_from_has, none_from_below, all_append, all_weaker, all_filter, all_map, all_of_map, rises_push}
 use Rattle.ann_types.proofs.Named.{name, pids_are, names_append, names_put, names_merge_of}
 use Rattle.ann_types.proofs.Folds.{entries_none, entries_then, next_pid_push, live_push}
+use Rattle.ann_types.proofs.Booleans.{and_comm}
+use Rattle.std.proofs.lemmas.Grind.{flat_map-append}
 
 -- ---- filters
 
@@ -53,13 +55,7 @@ filter_map_comm : {A B : Type 0} (f : A → B) (q : B → Bool) (xs : List A) �
 filter_map_comm f q [] = refl
 filter_map_comm f q (x ∷ xs) = elim (q (f x)) as (λ t. map f (cond t (x ∷ filter (λ y. q (f y)) xs) (filter (λ y. q (f y)) xs)) ≡ cond t (f x ∷ filter q (map f xs)) (filter q (map f xs))) [ true ↦ ap (λ t. f x ∷ t) (filter_map_comm f q xs) | false ↦ filter_map_comm f q xs ]
 
-and_comm : (a b : Bool) → (a && b) ≡ (b && a)
-and_comm true true = refl
-and_comm true false = refl
-and_comm false true = refl
-and_comm false false = refl
-
-has_filter_is : (q : ℕ → Bool) (xs : List ℕ) (p : ℕ) → has (filter q xs) p ≡ (has xs p && q p)
+pub has_filter_is : (q : ℕ → Bool) (xs : List ℕ) (p : ℕ) → has (filter q xs) p ≡ (has xs p && q p)
 has_filter_is q [] p = refl
 has_filter_is q (x ∷ xs) p =
     elim (q x) as (λ t. q x ≡ t → has (cond t (x ∷ filter q xs) (filter q xs)) p ≡ ((eqb p x || has xs p) && q p)) [
@@ -72,10 +68,6 @@ has_filter_is q (x ∷ xs) p =
         | false ↦ λ s. refl
       ] refl
     ] refl
-
-flat_map_append : {A B : Type 0} (f : A → List B) (xs ys : List A) → flat_map f (xs ++ ys) ≡ flat_map f xs ++ flat_map f ys
-flat_map_append f [] ys = refl
-flat_map_append f (x ∷ xs) ys = ap (λ t. f x ++ t) (flat_map_append f xs ys) ∙ sym (append_assoc (f x) (flat_map f xs) (flat_map f ys))
 
 -- ---- names with Pids that rise
 
@@ -125,7 +117,7 @@ unmapped_none (e ∷ es) tag h =
     let both = or_parts (eqb e.0 tag) (is_live es tag) h in
     ap (λ t. cond (not t) (e ∷ unmapped es tag) (unmapped es tag)) both.0 ∙ ap (λ t. e ∷ t) (unmapped_none es tag both.1)
 
-names_survivors : (gone : List ℕ) (points : List Point) → names_of (survivors gone points) ≡ filter (λ e. not (has gone e.1)) (names_of points)
+pub names_survivors : (gone : List ℕ) (points : List Point) → names_of (survivors gone points) ≡ filter (λ e. not (has gone e.1)) (names_of points)
 names_survivors gone points = filter_map_comm name (λ e. not (has gone e.1)) points
 
 -- ---- what holds of the state of each legal list
@@ -158,13 +150,13 @@ pub record Good (next : ℕ) (live : Names) (s : State) : Type 0 where
 
 -- ---- a graph freezes
 
-abbrev frozen_points : List Graph → List Point
+abbrev pub frozen_points : List Graph → List Point
 frozen_points gs = flat_map (λ (g : Graph). g.points) gs
 
-frozen_push : (gs : List Graph) (g : Graph) → frozen_points (gs ++ g ∷ []) ++ [] ≡ frozen_points gs ++ g.points
+pub frozen_push : (gs : List Graph) (g : Graph) → frozen_points (gs ++ g ∷ []) ++ [] ≡ frozen_points gs ++ g.points
 frozen_push gs g =
     append-nil (frozen_points (gs ++ g ∷ []))
-    ∙ flat_map_append (λ (x : Graph). x.points) gs (g ∷ [])
+    ∙ flat_map-append (λ (x : Graph). x.points) gs (g ∷ [])
     ∙ ap (λ t. frozen_points gs ++ t) (append-nil g.points)
 
 all_points_frozen : (s : State) (g : Graph) → all_points (frozen s g) ≡ all_points (record s { rw = g })
@@ -173,7 +165,7 @@ all_points_frozen s g =
     ∙ ap (λ t. s.lti.points ++ t) (frozen_push s.ros g)
     ∙ sym (append_assoc s.lti.points (frozen_points s.ros) g.points)
 
-behind_frozen : (s : State) (g : Graph) (b : Begun) → b.frozen ≤ length s.ros → behind (frozen s g) b ≡ behind (record s { rw = g }) b
+pub behind_frozen : (s : State) (g : Graph) (b : Begun) → b.frozen ≤ length s.ros → behind (frozen s g) b ≡ behind (record s { rw = g }) b
 behind_frozen s g b l = ap (λ t. frozen_points t ++ []) (drop-append-le b.frozen s.ros (g ∷ []) l) ∙ frozen_push (drop b.frozen s.ros) g
 
 freeze_open : (next : ℕ) (s : State) (g : Graph) (o : Option Begun) → OpenHolds next (record s { rw = g }) o → OpenHolds next (frozen s g) o
@@ -315,7 +307,7 @@ pub split_points : (s : State) (b : Begun) → all_points s ≡ (s.lti.points ++
 split_points s b =
     let taken : List Point = frozen_points (take b.frozen s.ros) in
     let rest : List Point = frozen_points (drop b.frozen s.ros) in
-    ap (λ t. s.lti.points ++ t ++ s.rw.points) (sym (ap frozen_points (take-append-drop b.frozen s.ros)) ∙ flat_map_append (λ (g : Graph). g.points) (take b.frozen s.ros) (drop b.frozen s.ros))
+    ap (λ t. s.lti.points ++ t ++ s.rw.points) (sym (ap frozen_points (take-append-drop b.frozen s.ros)) ∙ flat_map-append (λ (g : Graph). g.points) (take b.frozen s.ros) (drop b.frozen s.ros))
     ∙ ap (λ t. t ++ s.rw.points) (sym (append_assoc s.lti.points taken rest))
     ∙ append_assoc (s.lti.points ++ taken) rest s.rw.points
 

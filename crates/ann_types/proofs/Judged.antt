@@ -13,6 +13,7 @@ use Rattle.ann_types.specs.declared.change.Change.{Change}
 use Rattle.ann_types.specs.declared.change.Change.TheVariants.{Insert, Delete, Replace}
 use Rattle.ann_types.proofs.Folds.{next_pid_push, live_push, legal_entries}
 use Rattle.ann_types.proofs.Tagged.{next_pid_after, next_pid_ends}
+use Rattle.ann_types.proofs.Options.{some_none}
 
 below_is_not_at : (n m : ℕ) → n ≤ m → ltb n m ≡ not (eqb n m)
 below_is_not_at n m l =
@@ -40,9 +41,6 @@ pub judged : (params : Params) (h : BasedList) (s : State) (by : ℕ) (c : Chang
 judged params h s by (Insert tag vector) l = vector_judged params h vector (judge_new h tag) (not (is_live (live_of h) tag)) l (new_judged h tag)
 judged params h s by (Delete tag) l = live_judged h tag
 judged params h s by (Replace tag vector) l = vector_judged params h vector (judge_live h tag) (is_live (live_of h) tag) l (live_judged h tag)
-
-some_none : {A : Type 0} (x : A) → Some x ≡ None → ⊥
-some_none x e = cc
 
 -- an update that is accepted from an index on is accepted at its first change and from the next on
 accepted_first : (params : Params) (h : BasedList) (by i : ℕ) (c : Change) (cs : List Change) → judge_from params h by i (c ∷ cs) ≡ None → (judge params h c ≡ None) × (judge_from params (with_entry h (entry_of by c)) by (i + 1) cs ≡ None)

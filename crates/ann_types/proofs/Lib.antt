@@ -1,3 +1,6 @@
+pub mod Booleans
+pub mod Options
+pub mod Each
 pub mod Distances
 pub mod WorkedIndexes
 pub mod WorkedGraphs

@@ -20,6 +20,7 @@ use Rattle.ann_types.proofs.Sets.{Rises, has_ascending, rises_ascending, all_app
 use Rattle.ann_types.proofs.Keeps.{kept_inside, kept_few, kept_rises, within_inside, within_few, within_rises}
 use Rattle.ann_types.proofs.Named.{new_names, pids_are, pids_same, names_delete, names_first_base, names_base, names_insert, names_patch}
 use Rattle.ann_types.proofs.Graphs.{all_from_has, all_two, IsLinked, AreLinked, IsEntry, AreFew, AreLong, linked_wider, linked_smaller, links_inside, visited_inside, wider_left, wider_right, pids_put, linked_put, entry_put, few_put, graph_of_from, linked_from_graph, long_of}
+use Rattle.ann_types.proofs.Each.{all_take, all_drop}
 
 abbrev pub new_pids : List NewPoint → List ℕ
 new_pids new = map (λ x. x.pid) new
@@ -60,7 +61,7 @@ pids_survivors gone (x ∷ points) = elim (has gone x.pid) as (λ t. pids_of (co
 pub pids_delete : (index : Index) (points : List Point) (gone : List ℕ) → pids_of (delete_phase index points gone) ≡ filter (λ p. not (has gone p)) (pids_of points)
 pids_delete index points gone = pids_same (delete_phase index points gone) (survivors gone points) (names_delete index points gone) ∙ pids_survivors gone points
 
-none_any : (q : ℕ → Bool) (xs : List ℕ) (p : ℕ) → list_any q xs ≡ false → has xs p ≡ true → q p ≡ false
+pub none_any : (q : ℕ → Bool) (xs : List ℕ) (p : ℕ) → list_any q xs ≡ false → has xs p ≡ true → q p ≡ false
 none_any q [] p n h = absurd (false≢true h)
 none_any q (x ∷ xs) p n h =
     let both = or_parts (q x) (list_any q xs) n in
@@ -240,12 +241,6 @@ pids_base index left new =
     ∙ map-append first (names_of left) (new_names new)
     ∙ ap (λ t. t ++ map first (new_names new)) (pids_are left)
     ∙ ap (λ t. pids_of left ++ t) (new_pids_are new)
-
-all_take : {A : Type 0} (P : A → Type 0) (n : ℕ) (xs : List A) → AllByRecursion P xs → AllByRecursion P (take n xs)
-all_take P n xs a = all_left P (take n xs) (drop n xs) (subst (AllByRecursion P) (sym (take-append-drop n xs)) a)
-
-all_drop : {A : Type 0} (P : A → Type 0) (n : ℕ) (xs : List A) → AllByRecursion P xs → AllByRecursion P (drop n xs)
-all_drop P n xs a = all_right P (take n xs) (drop n xs) (subst (AllByRecursion P) (sym (take-append-drop n xs)) a)
 
 rises_take_new : (n : ℕ) (new : List NewPoint) → Rises (new_pids new) → Rises (new_pids (take n new))
 rises_take_new n new r =

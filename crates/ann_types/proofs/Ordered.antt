@@ -1,25 +1,9 @@
 -- Lemmas on points in order.
-use Rattle.std.proofs.Common.{◌⊎◌, inl, inr, ltb-true, eqb-true, lt-ltb, eq-eqb, ◌≡◌, ℕ, zero, suc, ◌≤◌, ◌<◌, Bool, true, false, cond, eqb, List, [], ◌∷◌, ◌++◌, ◌||◌, refl, sym, ap, subst, ◌∙◌, arith, take, append_assoc, append-nil}
+use Rattle.std.proofs.Common.{◌⊎◌, inl, inr, ltb-true, eqb-true, lt-ltb, eq-eqb, ◌≡◌, ℕ, zero, suc, ◌≤◌, ◌<◌, true, false, cond, eqb, List, [], ◌∷◌, ◌++◌, ◌||◌, refl, sym, ap, subst, ◌∙◌, arith, take, append_assoc, append-nil}
 use Rattle.std.proofs.lemmas.List.{take-take}
 use Rattle.std.proofs.lemmas.Bool.{false≢true, cond-true, cond-false, eqb-false, or_cases, and_parts, or_left, or_right, and_from, false_from_ne_true, both_ways, ne_eqb}
 use Rattle.ann_types.specs.Order.{before, placed, all_placed, in_order, top, has}
-
-or_false : (a : Bool) → (a || false) ≡ a
-or_false true = refl
-or_false false = refl
-
-or_assoc : (a b c : Bool) → (a || (b || c)) ≡ ((a || b) || c)
-or_assoc true b c = refl
-or_assoc false b c = refl
-
-or_swap : (a b c : Bool) → (a || (b || c)) ≡ (b || (a || c))
-or_swap true true c = refl
-or_swap true false c = refl
-or_swap false b c = refl
-
-or_twice : (a b : Bool) → (a || (a || b)) ≡ (a || b)
-or_twice true b = refl
-or_twice false b = refl
+use Rattle.ann_types.proofs.Booleans.{or_false, or_assoc, or_swap, or_twice}
 
 cut_cons : (n y : ℕ) (s : List ℕ) → take n (y ∷ take n s) ≡ take n (y ∷ s)
 cut_cons zero y s = refl

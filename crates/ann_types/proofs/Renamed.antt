@@ -8,6 +8,7 @@ use Rattle.ann_types.specs.Order.{before, placed, all_placed, in_order, top, has
 use Rattle.ann_types.specs.Kept.{Rule, covered, takes, keep, kept, within}
 use Rattle.ann_types.specs.Walk.{Ground, met, near, next, walk_on, visited_of}
 use Rattle.ann_types.specs.Rounds.{round, rounds_on, rounds_of}
+use Rattle.ann_types.proofs.Options.{none_some, some_is}
 
 -- each number is below n
 abbrev pub Below : ℕ → List ℕ → Type 0
@@ -157,12 +158,6 @@ pub record Renames (f : ℕ → ℕ) (n : ℕ) (g h : Ground) : Type 0 where
   pub far : (r : ℕ) → r < n → h.far (f r) ≡ g.far r
   pub entry_in : g.entry < n
   pub links_in : (r : ℕ) → r < n → Below n (g.links r)
-
-some_is : (x y : ℕ) → Some x ≡ Some y → x ≡ y
-some_is x y e = cc
-
-none_some : (p : ℕ) → None ≡ Some p → ⊥
-none_some p e = cc
 
 module _ (f : ℕ → ℕ) (n : ℕ) (g h : Ground) (w : Renames f n g h) where
   links_map : (v : List ℕ) → Below n v → flat_map h.links (map f v) ≡ map f (flat_map g.links v)

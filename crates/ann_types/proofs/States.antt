@@ -1,9 +1,8 @@
 -- The law of the fold: every graph of the state of a legal list is a graph of the index.
-use Rattle.std.proofs.Common.{◌≡◌, ℕ, ◌<◌, Bool, true, false, cond, eqb, ltb, not, List, [], ◌∷◌, ◌++◌, refl, sym, ap, ◌∙◌, subst, map, filter, flat_map, take, drop, length, eqb-true}
+use Rattle.std.proofs.Common.{◌≡◌, ℕ, ◌<◌, Bool, true, false, cond, eqb, ltb, not, List, [], ◌∷◌, ◌++◌, refl, sym, ap, ◌∙◌, subst, map, filter, flat_map, take, length, eqb-true}
 use Rattle.std.specs.Prelude.{Option, Some, None}
 use Rattle.std.specs.List.{AllByRecursion}
 use Rattle.std.proofs.lemmas.Bool.{and_parts}
-use Rattle.std.proofs.lemmas.List.{take-append-drop}
 use Rattle.ann_types.specs.Order.{has}
 use Rattle.ann_types.specs.Graph.{Point, Graph, is_empty, pids_of, IsGraphOf}
 use Rattle.ann_types.specs.Put.{put}
@@ -21,6 +20,7 @@ use Rattle.ann_types.proofs.Named.{pids_are, pids_append}
 use Rattle.ann_types.proofs.Graphs.{AreLong, long_of, put_graph, empty_is_graph}
 use Rattle.ann_types.proofs.Merges.{new_pids, NewLong, merged_graph}
 use Rattle.ann_types.proofs.Alive.{Good, behind, split_points, base_good, good_after}
+use Rattle.ann_types.proofs.Each.{all_take, all_drop}
 
 -- each graph of a state is a graph of the index
 pub record AreGraphs (params : Params) (s : State) : Type 0 where
@@ -67,12 +67,6 @@ graphs_long : (params : Params) (gs : List Graph) → AllByRecursion (IsGraphOf 
 graphs_long params [] a = tt
 graphs_long params (g ∷ gs) (w, a) = all_append (λ x. length x.vector ≡ params.d) g.points (points_in gs) (long_of params g w) (graphs_long params gs a)
 
-all_taken : {A : Type 0} (P : A → Type 0) (n : ℕ) (xs : List A) → AllByRecursion P xs → AllByRecursion P (take n xs)
-all_taken P n xs a = all_left P (take n xs) (drop n xs) (subst (AllByRecursion P) (sym (take-append-drop n xs)) a)
-
-all_dropped : {A : Type 0} (P : A → Type 0) (n : ℕ) (xs : List A) → AllByRecursion P xs → AllByRecursion P (drop n xs)
-all_dropped P n xs a = all_right P (take n xs) (drop n xs) (subst (AllByRecursion P) (sym (take-append-drop n xs)) a)
-
 rises_some : (q : Point → Bool) (xs : List ℕ) (ys : List Point) → Rises (xs ++ pids_of ys) → Rises (xs ++ pids_of (filter q ys))
 rises_some q [] [] r = tt
 rises_some q [] (y ∷ ys) (a, r) =
@@ -93,16 +87,16 @@ merge_order next live s b w =
     let front : Rises (pids_of s.lti.points ++ pids_of taken) = rises_left (pids_of s.lti.points ++ pids_of taken) (pids_of (behind s b)) (subst Rises parts all) in
     subst (λ (t : List ℕ). Rises (pids_of s.lti.points ++ t)) (sym (new_pids_of (survivors b.gone taken))) (rises_some (λ x. not (has b.gone x.pid)) (pids_of s.lti.points) taken front)
 
-merge_graph : (index : Index) (next : ℕ) (live : Names) (s : State) (o : Option Begun) → Good next live s → AreGraphs index.params s → IsGraphOf index.params (merge_of index s o)
+pub merge_graph : (index : Index) (next : ℕ) (live : Names) (s : State) (o : Option Begun) → Good next live s → AreGraphs index.params s → IsGraphOf index.params (merge_of index s o)
 merge_graph index next live s None w g = g.lti
 merge_graph index next live s (Some b) w g =
     let taken : List Point = points_in (take b.frozen s.ros) in
     merged_graph index s.lti (new_points s b) b.gone g.lti (merge_order next live s b w)
-    (new_long index.params.d (survivors b.gone taken) (all_filter (λ x. length x.vector ≡ index.params.d) (λ x. not (has b.gone x.pid)) taken (graphs_long index.params (take b.frozen s.ros) (all_taken (IsGraphOf index.params) b.frozen s.ros g.ros))))
+    (new_long index.params.d (survivors b.gone taken) (all_filter (λ x. length x.vector ≡ index.params.d) (λ x. not (has b.gone x.pid)) taken (graphs_long index.params (take b.frozen s.ros) (all_take (IsGraphOf index.params) b.frozen s.ros g.ros))))
 
 switched_graphs : (params : Params) (s : State) (lti : Graph) (o : Option Begun) → AreGraphs params s → IsGraphOf params lti → AreGraphs params (switched s lti o)
 switched_graphs params s lti None w g = w
-switched_graphs params s lti (Some b) w g = record { rw = w.rw; ros = all_dropped (IsGraphOf params) b.frozen s.ros w.ros; lti = g }
+switched_graphs params s lti (Some b) w g = record { rw = w.rw; ros = all_drop (IsGraphOf params) b.frozen s.ros w.ros; lti = g }
 
 -- ---- one entry more
 

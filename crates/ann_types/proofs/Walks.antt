@@ -1,10 +1,10 @@
 -- Lemmas and laws on walks: a visited point isn't visited again, and what has left the least points met
 -- never comes back.
-use Rattle.std.proofs.Common.{◌≡◌, ℕ, zero, suc, ◌+◌, ◌≤◌, Bool, true, false, cond, eqb, not, List, [], ◌∷◌, ◌++◌, refl, sym, ap, ◌∙◌, subst, arith, take, length, append_assoc, ◌⊎◌, inl, inr, eqb-true, eq-eqb}
+use Rattle.std.proofs.Common.{◌≡◌, ℕ, zero, suc, ◌+◌, ◌≤◌, Bool, true, false, cond, eqb, not, List, [], ◌∷◌, ◌++◌, refl, sym, ap, ◌∙◌, subst, arith, take, length, ◌⊎◌, inl, inr, eqb-true, eq-eqb}
 use Rattle.std.specs.Prelude.{Option, Some, None, flat_map, find, filter, option_to_list}
 use Rattle.std.specs.List.{IsDistinct}
 use Rattle.std.specs.Cmp.{nat_eq_equiv}
-use Rattle.std.proofs.lemmas.List.{append-nil, length_push}
+use Rattle.std.proofs.lemmas.List.{length_push}
 use Rattle.std.proofs.lemmas.Bool.{false≢true, or_cases, not-true}
 use Rattle.std.proofs.lemmas.Map.Keys.{IsDistinct-push}
 use Rattle.std.proofs.lemmas.Map.Made.{length-le_from_is_member}
@@ -12,10 +12,9 @@ use Rattle.ann_types.specs.Order.{all_placed, in_order, top, has}
 use Rattle.ann_types.specs.Walk.{Ground, met, near, next, walk_on, visited_of}
 use Rattle.ann_types.specs.Rounds.{rounds_on}
 use Rattle.ann_types.proofs.Ordered.{all_placed-append, has_append, has_here, has_later, has_cases, top_inside, top_stays}
-
-flat_map_push : (f : ℕ → List ℕ) (v : List ℕ) (p : ℕ) → flat_map f (v ++ p ∷ []) ≡ flat_map f v ++ f p
-flat_map_push f [] p = append-nil (f p)
-flat_map_push f (x ∷ v) p = ap (λ t. f x ++ t) (flat_map_push f v p) ∙ sym (append_assoc (f x) (flat_map f v) (f p))
+use Rattle.ann_types.proofs.Options.{none_some, some_is}
+use Rattle.std.proofs.lemmas.Grind.{flat_map-append}
+use Rattle.ann_types.proofs.Each.{flat_map_push}
 
 -- what is met in order, after one more visit
 pub met_more : (g : Ground) (v : List ℕ) (p : ℕ) → in_order g.far (met g (v ++ p ∷ [])) ≡ all_placed g.far (in_order g.far (met g v)) (g.links p)
@@ -32,21 +31,11 @@ pub walk_stops : (g : Ground) (width n : ℕ) (v : List ℕ) → next g width v 
 walk_stops g width zero v h = refl
 walk_stops g width (suc n) v h = ap (λ (o : Option ℕ). elim o as (λ _. List ℕ) [ None ↦ v | Some q ↦ walk_on g width n (v ++ q ∷ []) ]) h
 
-none_some : (p : ℕ) → None ≡ Some p → ⊥
-none_some p e = cc
-
-some_is : (x y : ℕ) → Some x ≡ Some y → x ≡ y
-some_is x y e = cc
-
 -- ---- What has left the least points met never comes back
-
-flat_map_append : (f : ℕ → List ℕ) (v w : List ℕ) → flat_map f (v ++ w) ≡ flat_map f v ++ flat_map f w
-flat_map_append f [] w = refl
-flat_map_append f (x ∷ v) w = ap (λ t. f x ++ t) (flat_map_append f v w) ∙ sym (append_assoc (f x) (flat_map f v) (flat_map f w))
 
 -- Met only grows.
 pub met_grows : (g : Ground) (v w : List ℕ) → met g (v ++ w) ≡ met g v ++ flat_map g.links w
-met_grows g v w = ap (λ t. g.entry ∷ t) (flat_map_append g.links v w)
+met_grows g v w = ap (λ t. g.entry ∷ t) (flat_map-append g.links v w)
 
 -- A point that was met and isn't near isn't near after further visits.
 pub near_stays : (g : Ground) (width p : ℕ) (v w : List ℕ) → has (met g v) p ≡ true → has (near g width (v ++ w)) p ≡ true → has (near g width v) p ≡ true

@@ -30,6 +30,14 @@ impl Vector {
         })
     }
 
+    /// Makes a vector of these components, which takes no memory.
+    pub fn from_components(components: Vec<u8>) -> Vector
+        requires { length components.items < 2 ^ 32 }
+        ensures { result ≡ components.items }
+    {
+        Vector { components }
+    }
+
     /// The components, in order.
     pub fn bytes(&self) -> &[u8]
         ensures components { result.now ≡ self.now }
