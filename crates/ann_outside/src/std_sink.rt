@@ -15,7 +15,7 @@ pub struct StdSink {
 impl StdSink {
     /// Standard output, without a fault so far.
     pub fn new(stdout: Stdout) -> StdSink
-        ensures { result.faults.count ≡ 0 }
+        ensures { ⟦<StdSink as Sink>⟧.faults result ≡ 0 }
     {
         StdSink {
             stdout,

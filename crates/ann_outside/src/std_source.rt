@@ -15,7 +15,7 @@ pub struct StdSource {
 impl StdSource {
     /// Standard input, without a fault so far.
     pub fn new(stdin: Stdin) -> StdSource
-        ensures { result.faults.count ≡ 0 }
+        ensures { ⟦<StdSource as Source>⟧.faults result ≡ 0 }
     {
         StdSource {
             stdin,

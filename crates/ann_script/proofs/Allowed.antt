@@ -18,12 +18,8 @@ use Rattle.ann_script.specs.Reading.{Reads}
 use Rattle.ann_script.specs.declared.script_refused.ScriptRefused.{ScriptRefused}
 use Rattle.ann_script.specs.declared.verbs.Rules.{Rules}
 use Rattle.ann_script.specs.declared.verbs.Verbs.{Verbs}
-
-none_some : {A : Type 0} (x : A) → None ≡ Some x → ⊥
-none_some x e = cc
-
-some_is : {A : Type 0} (x y : A) → Some x ≡ Some y → x ≡ y
-some_is x y e = cc
+use Rattle.ann_types.proofs.Booleans.{both}
+use Rattle.ann_types.proofs.Options.{none_some, some_is}
 
 -- what a step and the next one gave
 bound : {A B : Type 0} (o : Option A) (f : A → Option B) (y : B) → grammar.◌>>=◌ o f ≡ Some y → (x : A) × (o ≡ Some x) × (f x ≡ Some y)
@@ -50,10 +46,6 @@ by_bytes false x y e = absurd (none_some y e)
 by_order : (b : Bool) (x y : Order) → cond b (Some x) None ≡ Some y → ((b ≡ true) × (x ≡ y)) ⊎ ⊥
 by_order true x y e = inl (refl, some_is x y e)
 by_order false x y e = absurd (none_some y e)
-
-both : (a b : Bool) → (a && b) ≡ true → (a ≡ true) × (b ≡ true)
-both true b e = (refl, e)
-both false b e = absurd cc
 
 -- ---- Commands are within their limits
 

@@ -70,11 +70,9 @@ fn add(
     command: Command,
 ) -> Result<(), ParseRefused>
     requires { list_all is_name_byte name.now ≡ true }
-    ensures said {
-        Becomes result
-            (added room (map client_of parts.old.items) name.now (order_of command))
-            (map client_of parts.new.items)
-    }
+    ensures said { Becomes result
+        (added room (map client_of parts.old.items) name.now (order_of command))
+        (map client_of parts.new.items) }
     ensures size { length parts.new.items ≤ max (length parts.old.items) room }
 {
     if let Some(at) = place_of(parts, name) {

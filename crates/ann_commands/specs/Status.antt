@@ -1,0 +1,56 @@
+-- How a command ends.
+use Rattle.std.specs.Prelude.{◌≡◌, ℕ, List, ◌++◌, Option, None, codes, decimal}
+use Rattle.std.specs.Io.KnownBytes.{Appends}
+use Rattle.ann_types.specs.declared.params.Params.{Params}
+use Rattle.ann_script.specs.Script.{Client}
+use Rattle.ann_script.specs.Reading.{ReadsAll, FindsFault, IsCut}
+use Rattle.ann_script.specs.Outputs.{AppendsFront}
+use Rattle.ann_program.specs.Words.{once_setting, IsOnce}
+use Rattle.ann_program.specs.Once.{once_index, once_text}
+
+-- what came of a command: a script was served, the words or a line were at fault, a read failed, or there was no memory
+pub data Outcome : Type 0 where
+  Served : Params → List Client → Outcome
+  Usage : Outcome
+  LineFault : ℕ → Outcome
+  ReadFault : Outcome
+  NoMemory : Outcome
+
+abbrev pub status_of : Outcome → ℕ
+status_of (Served params script) = 0
+status_of Usage = 2
+status_of (LineFault number) = 3
+status_of ReadFault = 4
+status_of NoMemory = 9
+
+abbrev pub line_fault_text : ℕ → List ℕ
+line_fault_text number = codes "line " ++ decimal number ++ codes "\n"
+
+-- what is due to be written
+abbrev pub text_of : Outcome → List ℕ
+text_of (Served params script) = once_text (once_index params) script
+text_of Usage = codes "usage\n"
+text_of (LineFault number) = line_fault_text number
+text_of ReadFault = codes "read fault\n"
+text_of NoMemory = codes "memory\n"
+
+-- the words are those of `once`; what was read of the input before a line at fault, a failed read, or its end
+abbrev pub Happens : List (List ℕ) → Option (List ℕ) → Option (List ℕ) → Outcome → Type 0
+Happens words left left' (Served params script) = IsOnce words params × ReadsAll 1 left left' script
+Happens words left left' Usage = (once_setting words ≡ None) × (left' ≡ left)
+Happens words left left' (LineFault number) = (params : Params) × IsOnce words params × FindsFault 1 left left' number
+Happens words left left' ReadFault = (params : Params) × IsOnce words params × IsCut 1 left left'
+Happens words left left' NoMemory = Unit {0}
+
+-- a command ends with the status of what happened, and its text was written
+pub record Ends (words : List (List ℕ)) (left left' taken taken' : Option (List ℕ)) (status : ℕ) : Type 0 where
+  pub outcome : Outcome
+  pub happens : Happens words left left' outcome
+  pub status_is : status ≡ status_of outcome
+  pub written : Appends taken taken' (text_of outcome)
+
+-- a command breaks off while the text of what happened is written, of which a front was taken
+pub record BreaksOff (words : List (List ℕ)) (left left' taken taken' : Option (List ℕ)) : Type 0 where
+  pub outcome : Outcome
+  pub happens : Happens words left left' outcome
+  pub front : AppendsFront taken taken' (text_of outcome)
