@@ -3,7 +3,7 @@ use Rattle.std.proofs.Common.{◌≡◌, ℕ, ◌<◌, true, false, List, [], �
 use Rattle.std.specs.Prelude.{Option, Some, None, IfSome, IfNone, codes, if◌then◌else◌}
 use Rattle.std.specs.Str.{bytes_eq}
 use Rattle.ann_types.specs.declared.params.Params.{Params}
-use Rattle.ann_program.specs.Words.{Setting, given_setting, once_setting, IsMade, IsOnce}
+use Rattle.ann_commands.specs.Words.{Setting, given_setting, once_setting, IsMade, IsOnce}
 
 -- fewer than five words, or more, are no command
 pub too_few : (words : List (List ℕ)) → length words < 5 → once_setting words ≡ None

@@ -1,5 +1,5 @@
 -- The words of a command line.
-use Rattle.std.specs.Prelude.{◌≡◌, ℕ, ◌+◌, ◌&&◌, ◌==◌, nat_le, take, drop, position, Bool, List, [], ◌∷◌, Option, None, Some, codes, if◌then◌else◌}
+use Rattle.std.specs.Prelude.{◌≡◌, ℕ, ◌+◌, ◌&&◌, ◌==◌, false, nat_le, take, drop, position, Bool, List, [], ◌∷◌, Option, None, Some, codes, if◌then◌else◌}
 use Rattle.std.specs.Str.{bytes_eq}
 use Rattle.ann_types.specs.declared.params.Params.{Params}
 use Rattle.ann_script.specs.Words.{number_of}
@@ -44,6 +44,22 @@ abbrev pub once_setting : List (List ℕ) → Option Setting
 once_setting (name ∷ d ∷ r ∷ l ∷ alpha ∷ []) =
     if bytes_eq name (codes "once") then given_setting d r l alpha else None
 once_setting words = None
+
+-- `run WORKERS`, with 1 to 16 workers
+abbrev pub workers_of : List (List ℕ) → Option ℕ
+workers_of (name ∷ workers ∷ []) =
+    if bytes_eq name (codes "run") then (number_of 16 workers >>= λ n. if nat_le 1 n then Some n else None) else None
+workers_of words = None
+
+-- `truth` alone
+abbrev pub is_truth : List (List ℕ) → Bool
+is_truth (name ∷ []) = bytes_eq name (codes "truth")
+is_truth words = false
+
+-- the words of neither, which are for one thread
+pub record AreAlone (words : List (List ℕ)) : Type 0 where
+  pub no_run : workers_of words ≡ None
+  pub no_truth : is_truth words ≡ false
 
 abbrev pub setting_of : Params → Setting
 setting_of p = record { d = p.d; r = p.r; l_build = p.l_build; a = p.a; b = p.b }

@@ -1,5 +1,5 @@
 ghost use Rattle.std.specs.Prelude.{◌≡◌};
-ghost use Rattle.ann_program.specs.Owed.{owed_status, owed_text};
+ghost use Rattle.ann_commands.specs.Owed.{owed_status, owed_text};
 
 use ann_script::Transcript;
 

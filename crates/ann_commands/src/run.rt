@@ -1,20 +1,25 @@
-ghost use Rattle.std.specs.Prelude.{◌≡◌, ◌≢◌, ◌≤◌, ◌-◌, List, map, IfOk, string_bytes};
-ghost use Rattle.std.specs.List.{AllByRecursion};
-ghost use Rattle.ann_script.specs.Faults.{Rose};
+ghost use Rattle.std.specs.Prelude.{◌≡◌, ◌-◌, List, map, IfOk, string_bytes};
+ghost use Rattle.ann_outside.specs.Told.{TellsStill};
+ghost use Rattle.ann_script.specs.Allowed.{IsScriptOf};
 ghost use Rattle.ann_script.specs.Script.{Client};
+ghost use Rattle.ann_script.specs.declared.verbs.Verbs.TheVariants.{Once};
 ghost use Rattle.ann_types.specs.declared.params.Params.{Params};
-ghost use Rattle.ann_program.specs.Live.{ScriptTellsLive};
-ghost use Rattle.ann_program.specs.Once.{once_index};
-ghost use Rattle.ann_program.specs.Servable.{IsServable, lines_limit};
-ghost use Rattle.ann_program.specs.Status.{Served, LineFault, line_fault_text, Ends, BreaksOff};
-ghost use Rattle.ann_program.specs.Owed.{IsDue, IsOwed};
-ghost use Rattle.ann_program.specs.declared.owed.Owed.TheVariants.{ReadFault};
+ghost use Rattle.ann_once.specs.Live.{ScriptTellsLive};
+ghost use Rattle.ann_once.specs.Once.{once_index};
+ghost use Rattle.ann_commands.specs.Counts.{CountsDue, CountsReads, CountsWrites};
+ghost use Rattle.ann_commands.specs.Owed.{IsDue, IsOwed, IsPaid};
+ghost use Rattle.ann_commands.specs.Place.{IsWhole};
+ghost use Rattle.ann_commands.specs.Status.{Served, LineFault, line_fault_text, Ends};
+ghost use Rattle.ann_commands.specs.Words.{AreAlone};
 
-use crate::once::transcript_of;
 use crate::owed::Owed;
+use crate::place::Place;
 use crate::words::once_params;
+use ann_disk::LogFile;
+use ann_once::transcript_of;
 use ann_script::{Script, ScriptRefused, Sink, Source, Verbs, write_all};
 use ann_types::Params;
+use ann_vault::{Eye, Vault};
 use std::alloc::{AllocError, Global};
 use std::fmt::Write;
 
@@ -43,7 +48,7 @@ fn line_at_fault(alloc: Global, number: u64) -> Owed
 /// What is owed for a script that was read.
 fn transcribed(alloc: Global, params: &Params, script: &Script) -> Owed
     requires code { params.now.m ≡ 1 }
-    requires servable { AllByRecursion (IsServable (lines_limit - 1)) script.now }
+    requires script { IsScriptOf Once script.now }
     ensures { IsDue result (Served params.now script.now) }
 {
     match transcript_of(alloc, params, script) {
@@ -55,8 +60,8 @@ fn transcribed(alloc: Global, params: &Params, script: &Script) -> Owed
 /// What a command owes its output, after it has read its input.
 fn due<S: Source>(alloc: Global, words: &[String], input: &mut S) -> Owed
     ensures is { IsOwed (map string_bytes words.now) (S.left input.old) (S.left input.new) result }
-    ensures later { S.faults input.old ≤ S.faults input.new }
-    ensures cause { result ≡ ReadFault → Rose (S.faults input.old) (S.faults input.new) }
+    ensures told { TellsStill (S.left input.old) (S.left input.new) }
+    ensures count { CountsDue result (S.faults input.old) (S.faults input.new) }
 {
     let params = match once_params(words) {
         Some(params) => params,
@@ -70,33 +75,47 @@ fn due<S: Source>(alloc: Global, words: &[String], input: &mut S) -> Owed
     }
 }
 
-/// Runs a command over any input and output, and gives its exit status.
-///
-/// The command is `once D R L A/B`: it reads a script of one client, and writes the replies to its commands in order.
-/// The status is 0, or 2 where the words are at fault, 3 where a line of the script is, 4 where a read failed, 5 where
-/// a write failed, and 9 where there was no memory. For all but 5 the text that belongs to it was written as a whole.
-#[tactic(auto, using(crate::proofs::Live::script_tells))]
-pub fn run_alone<S: Source, K: Sink>(
-    alloc: Global,
-    words: &[String],
-    input: &mut S,
-    out: &mut K,
-) -> u8
-    // The status and the written text are those of what happened.
-    ensures ends { result ≢ 5 → Ends (map string_bytes words.now) (S.left input.old) (S.left input.new) (K.taken out.old) (K.taken out.new) result }
-    // Where a write failed, a front of that text was written.
-    ensures breaks_off { result ≡ 5 → BreaksOff (map string_bytes words.now) (S.left input.old) (S.left input.new) (K.taken out.old) (K.taken out.new) }
-    // Each tag that a search of a script tells is live at the list that its reply names.
-    ensures live { (params : Params) (script : List Client) → ScriptTellsLive (once_index params) script }
-    // A fault is one that was counted in this call.
-    ensures write_cause { result ≡ 5 → Rose (K.faults out.old) (K.faults out.new) }
-    ensures read_cause { result ≡ 4 → Rose (S.faults input.old) (S.faults input.new) }
-    ensures reads_counted { S.faults input.old ≤ S.faults input.new }
-    ensures writes_counted { K.faults out.old ≤ K.faults out.new }
+/// Writes what is owed, and gives the exit status.
+fn pay<K: Sink>(out: &mut K, owed: &Owed) -> u8
+    ensures paid { IsPaid (K.taken out.old) (K.taken out.new) owed.now result }
+    ensures told { TellsStill (K.taken out.old) (K.taken out.new) }
+    ensures count { CountsWrites result (K.faults out.old) (K.faults out.new) }
 {
-    let owed = due(alloc, words, input);
     match write_all(out, owed.bytes()) {
         Ok(()) => owed.status(),
         Err(_) => WRITE_FAULT,
     }
+}
+
+/// Runs a command of one thread over any input, output and place, and gives its exit status.
+///
+/// The command is `once D R L A/B`: it reads a script of one client, and writes the replies to its commands in order.
+/// The status is 0, or 2 where the words are at fault, 3 where a line of the script is, 4 where a read failed, 5 where
+/// a write failed, and 9 where there was no memory. For all but 5 the text that belongs to it was written as a whole.
+/// The place isn't touched.
+pub fn run_alone<S: Source, K: Sink, F: LogFile, V: Vault, E: Eye<Seal = V::Seal>>(
+    alloc: Global,
+    words: &[String],
+    input: &mut S,
+    out: &mut K,
+    place: &mut Place<F, V, E>,
+) -> u8
+    requires words { AreAlone (map string_bytes words.now) }
+    requires place { IsWhole place.old }
+    // The status and the written text are those of what happened; where a write failed, a front of that text was written.
+    ensures ends { Ends (map string_bytes words.now)
+        (S.left input.old) (S.left input.new)
+        (K.taken out.old) (K.taken out.new)
+        result }
+    // Each tag that a search of a script tells is live at the list that its reply names.
+    ensures live { (params : Params) (script : List Client) → ScriptTellsLive (once_index params) script }
+    ensures told { TellsStill (S.left input.old) (S.left input.new) × TellsStill (K.taken out.old) (K.taken out.new) }
+    // A fault is one that was counted in this call, and a count rises for a fault alone.
+    ensures reads { CountsReads result (S.faults input.old) (S.faults input.new) }
+    ensures writes { CountsWrites result (K.faults out.old) (K.faults out.new) }
+    // The place is as it was.
+    ensures place { place.new ≡ place.old }
+{
+    let owed = due(alloc, words, input);
+    pay(out, &owed)
 }

@@ -1,5 +1,5 @@
 ghost use Rattle.std.specs.Prelude.{◌≡◌, ◌≤◌, ◌<◌, ◌==◌, length, position, false, None, map, string_bytes, Some, IfSome, IfNone};
-ghost use Rattle.ann_program.specs.Words.{Setting, setting_of, is_within, pair_of, fraction_of, given_setting, once_setting, IsOnce, IsMade};
+ghost use Rattle.ann_commands.specs.Words.{Setting, setting_of, is_within, pair_of, fraction_of, given_setting, once_setting, IsOnce, IsMade};
 
 use ann_script::number;
 use ann_types::Params;

@@ -1,4 +1,4 @@
-ghost use Rattle.std.specs.Prelude.{◌≡◌, ◌<◌, ◌^◌, None, length};
+ghost use Rattle.std.specs.Prelude.{◌≡◌, ℕ, ◌<◌, ◌^◌, None, length};
 ghost use Rattle.ann_types.specs.Judge.{entry_of, judge as judge_one, judge_all, judge_vector};
 ghost use Rattle.ann_types.specs.Lists.{BasedList, makes_point, next_pid, is_live, live_of};
 ghost use Rattle.ann_judge.specs.Standing.{KnowsOf, behind, tag_of as tag_in, refused, refused_at};
@@ -112,9 +112,8 @@ impl<'a> Standing<'a> {
         }
     }
 
-    /// Judges an update: the first of its changes that is refused, counted from 0, with the reason; `None` where all are
-    /// accepted.
-    pub fn judge(&self, changes: &[Change]) -> Option<(u32, Refusal)>
+    /// The first of these changes that is refused, counted from 0, with the reason.
+    fn first_refused(&self, changes: &[Change]) -> Option<(u32, Refusal)>
         requires few { length changes.now < 2 ^ 32 }
         ensures { (h : BasedList) → KnowsOf h self.now →
             result ≡ refused_at (judge_all self.now.params.now h 0 changes.now) }
@@ -125,5 +124,15 @@ impl<'a> Standing<'a> {
             }
         }
         None
+    }
+
+    /// Judges an update of any client: the first of its changes that is refused, counted from 0, with the reason; `None`
+    /// where all are accepted.
+    pub fn judge(&self, changes: &[Change]) -> Option<(u32, Refusal)>
+        requires few { length changes.now < 2 ^ 32 }
+        ensures { (h : BasedList) (by : ℕ) → KnowsOf h self.now →
+            result ≡ refused_at (judge_all self.now.params.now h by changes.now) }
+    {
+        self.first_refused(changes)
     }
 }

@@ -113,7 +113,7 @@ reading-end rules a b c draft count result reading more ended short finishes =
     says = within rules reading.bytes (omega (arith, reading.long)) ∙ ap (text_said rules Whole) (sym (append-nil reading.bytes)) ∙ reading.same Whole []
 
     cases : (result : Result (List Client) ScriptRefused) → Finishes draft result → Reads rules a c result
-    cases (Ok script) finishes = record { bytes = reading.bytes; read = all; at_end = ended; says = says ∙ finishes }
+    cases (Ok script) finishes = record { bytes = reading.bytes; read = all; at_end = ended; short = omega (arith, reading.long); says = says ∙ finishes }
     cases (Err (Line number)) finishes = record { bytes = reading.bytes; read = all; short = omega (arith, reading.long); at_fault = inl (ended, says ∙ finishes) }
     cases (Err Failed) finishes = absurd finishes
     cases (Err (Memory e)) finishes = record { bytes = reading.bytes; read = all; short = omega (arith, reading.long) }

@@ -12,6 +12,7 @@ pub record ReadsAll (rules : Rules) (left left' : Option (List ℕ)) (script : L
   pub bytes : List ℕ
   pub read : Consumes left left' bytes
   pub at_end : IsAtEnd left'
+  pub short : length bytes ≤ limit
   pub says : script_of rules bytes ≡ Ok script
 
 -- these bytes were read, and this line is the input's first at fault: the input ended, or it doesn't matter what follows

@@ -2,8 +2,8 @@ use Rattle.std.proofs.Common.{◌≡◌, ◌∙◌, ◌∷◌, [], List, ℕ, ap
 use Rattle.std.specs.Prelude.{codes}
 use Rattle.std.specs.Str.{bytes_eq}
 use Rattle.std.proofs.lemmas.List.{length-map}
-use Rattle.ann_program.proofs.Counts.{too_few, too_many, five, other_name, once_given, once_refused}
-use Rattle.ann_program.proofs.words.once_params.Goals as goal
+use Rattle.ann_commands.proofs.Counts.{too_few, too_many, five, other_name, once_given, once_refused}
+use Rattle.ann_commands.proofs.words.once_params.Goals as goal
 
 pub returns-in_default-clause-usage : goal.returns-in_default-clause-usage
 returns-in_default-clause-usage c =

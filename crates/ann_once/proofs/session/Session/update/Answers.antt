@@ -11,7 +11,7 @@ use Rattle.ann_once.proofs.session.Session.update.Goals as goal
 all_accepted : (c : goal.After-accepted) (h : BasedList) → Keeps h c.args.self.now → judge_all c.args.self.now.params h 0 c.args.changes.now ≡ None
 all_accepted c h keeps =
     subst (λ (p : Params). judge_all p h 0 c.args.changes.now ≡ None) c.standing.ensures.params
-    (refused_at_none _ (c.in_default.ensures h (c.standing.ensures.knows h keeps)))
+    (refused_at_none _ (c.in_default.ensures h 0 (c.standing.ensures.knows h keeps)))
 
 pub returns-clause-reply : goal.returns-clause-reply
 returns-clause-reply c = λ h keeps.
