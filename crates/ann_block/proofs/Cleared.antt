@@ -4,8 +4,10 @@ use Rattle.std.proofs.lemmas.List.{length-replicate, drop-replicate, drop-drop, 
 use Rattle.std.specs.List.{concat}
 use Rattle.std.proofs.lemmas.List.Folds.{concat-append}
 use Rattle.ann_bytes.specs.LittleEndian.{with_field}
+use Rattle.ann_bytes.proofs.Joined.{laid}
 use Rattle.ann_block.specs.Block.{zeros, is_zeros}
-use Rattle.ann_block.proofs.Rules.{both, same}
+use Rattle.ann_types.proofs.Booleans.{both}
+use Rattle.ann_block.proofs.Rules.{same}
 
 pub length-zeros : (n : ℕ) → length (zeros n) ≡ n
 unfolding zeros
@@ -35,11 +37,7 @@ put_behind front new at n long =
     (take_at front (zeros n) at long)
     (sym (drop-drop (length new) at (front ++ zeros n)) ∙ ap (drop (length new)) (drop_at front (zeros n) at long) ∙ drop-zeros (length new) n)
 
--- fields written one after the other from a place on
-abbrev pub laid : ℕ → List (List ℕ) → List ℕ → List ℕ
-laid at [] bytes = bytes
-laid at (new ∷ news) bytes = laid (at + length new) news (with_field bytes at new)
-
+-- fields written one after the other into zeros
 laid_behind : (news : List (List ℕ)) (front : List ℕ) (at n : ℕ) → length front ≡ at → laid at news (front ++ zeros n) ≡ front ++ (concat news ++ zeros (n - length (concat news)))
 laid_behind [] front at n long = ap (λ (k : ℕ). front ++ zeros k) (omega arith)
 laid_behind (new ∷ news) front at n long =

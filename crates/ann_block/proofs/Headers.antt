@@ -9,9 +9,11 @@ use Rattle.ann_bytes.proofs.Numbers.{length-bytes_of, number_of-bytes_of}
 use Rattle.ann_block.specs.Block.{zeros, is_zeros}
 use Rattle.ann_block.specs.Header.{IsHeader, magic, entry_field, entry_row, header_bytes, header_of, are_limits, may_enter, is_shape, fields_in, header_rules, judge_header}
 use Rattle.ann_block.specs.declared.header.Header.{Header}
-use Rattle.ann_block.proofs.Cleared.{length-zeros, zeros_only, zeros_are, laid, laid_is}
-use Rattle.ann_block.proofs.Fields.{IsBytes, field_is, concat-cut, field-concat}
-use Rattle.ann_block.proofs.Rules.{both, same, same_true, not_same, AreMet, all_met, none_broken}
+use Rattle.ann_types.proofs.Booleans.{both, same_true, not_same}
+use Rattle.ann_bytes.proofs.Joined.{laid, concat-cut, field-concat}
+use Rattle.ann_bytes.proofs.Numbered.{IsBytes, field_is}
+use Rattle.ann_block.proofs.Cleared.{length-zeros, zeros_only, zeros_are, laid_is}
+use Rattle.ann_block.proofs.Rules.{same, AreMet, all_met, none_broken}
 
 -- ---- the fields of a header
 

@@ -1,5 +1,4 @@
 pub mod Cleared
-pub mod Fields
 pub mod Headers
 pub mod Listed
 pub mod Nodes

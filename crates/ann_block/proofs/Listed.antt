@@ -5,7 +5,7 @@ use Rattle.std.specs.Simd.{first_chunks}
 use Rattle.std.proofs.lemmas.List.{take_more, flat_map_more, take-take, drop-take, take-append-drop}
 use Rattle.ann_bytes.specs.LittleEndian.{number_of, bytes_of}
 use Rattle.ann_bytes.proofs.Numbers.{length-bytes_of, number_of-bytes_of}
-use Rattle.ann_block.proofs.Fields.{IsBytes, field_is, drop_bytes}
+use Rattle.ann_bytes.proofs.Numbered.{IsBytes, field_is, drop_bytes}
 use Rattle.ann_block.specs.Node.{is_ascending, numbers_in}
 
 pub length-numbers : (numbers : List ℕ) → length (flat_map (bytes_of 4) numbers) ≡ 4 * length numbers

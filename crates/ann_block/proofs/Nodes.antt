@@ -11,10 +11,12 @@ use Rattle.ann_bytes.proofs.Numbers.{length-bytes_of, number_of-bytes_of}
 use Rattle.ann_block.specs.declared.node.NodeHead.{NodeHead}
 use Rattle.ann_block.specs.Block.{zeros, is_zeros}
 use Rattle.ann_block.specs.Node.{IsNodeOf, node_bytes, node_of, head_in, neighbours_of, numbers_in, is_stranger, is_ascending, node_rules, judge_node}
-use Rattle.ann_block.proofs.Cleared.{length-zeros, zeros_only, zeros_are, laid, laid_is}
-use Rattle.ann_block.proofs.Fields.{IsBytes, field_is, length-field, concat-cut, drop-concat, field-concat, drop_bytes}
+use Rattle.ann_types.proofs.Booleans.{both, neither, not_same, not_true, same_true}
+use Rattle.ann_bytes.proofs.Joined.{laid, concat-cut, drop-concat, field-concat}
+use Rattle.ann_bytes.proofs.Numbered.{IsBytes, field_is, length-field, drop_bytes}
+use Rattle.ann_block.proofs.Cleared.{length-zeros, zeros_only, zeros_are, laid_is}
 use Rattle.ann_block.proofs.Listed.{length-numbers, length-numbers_in, numbers_again, numbers_back}
-use Rattle.ann_block.proofs.Rules.{both, neither, same, same_true, other, not_same, not_false, AreMet, all_met, none_broken}
+use Rattle.ann_block.proofs.Rules.{same, other, AreMet, all_met, none_broken}
 
 -- ---- ascending numbers, and other rows
 
@@ -94,7 +96,7 @@ module _ (block : List ℕ) (pid row count : ℕ) (params : Params) (small : IsB
   unfolding node_of
   node_sound short =
       let neighbours = neighbours_of params.d block in
-      let no_stranger = not_false (list_any (is_stranger row count) neighbours) rules_met.1.1.1.0 in
+      let no_stranger = not_true (list_any (is_stranger row count) neighbours) rules_met.1.1.1.0 in
       record {
         dimension = length-field block 16 params.d (omega (arith, long, short));
         degree = let many = length-numbers_in (head_in block).degree (drop (16 + params.d) block) in omega (arith, many, few);

@@ -1,36 +1,18 @@
 -- What tests tell.
-use Rattle.std.proofs.Common.{◌≡◌, ◌≢◌, ℕ, Bool, true, false, not, List, ◌∷◌, ◌==◌, ◌&&◌, ◌||◌, Option, Some, None, Result, Ok, Err, IfOk, refl, sym, ap, ◌∙◌, if◌then◌else◌, []}
+use Rattle.std.proofs.Common.{◌≡◌, ◌≢◌, ℕ, Bool, true, false, List, ◌∷◌, ◌==◌, Option, Some, None, Result, Ok, Err, IfOk, refl, sym, ap, ◌∙◌, if◌then◌else◌, []}
 use Rattle.std.proofs.lemmas.Bool.Decides.{Decides-eqb}
+use Rattle.ann_types.proofs.Booleans.{same_true}
 use Rattle.ann_block.specs.Block.{first_broken}
 use Rattle.ann_block.specs.declared.refused.BlockRefused.{BlockRefused}
 
-pub both : (x y : Bool) → (x && y) ≡ true → (x ≡ true) × (y ≡ true)
-both true true is = (refl, refl)
-both true false is = (refl, is)
-both false y is = (is, cc)
-
-pub neither : (x y : Bool) → (x || y) ≡ false → (x ≡ false) × (y ≡ false)
-neither true y is = (is, cc)
-neither false y is = (refl, is)
-
 pub same : (x y : ℕ) → (x == y) ≡ true → x ≡ y
 same x y is = (Decides-eqb x y).0 is
-
-pub same_true : (x y : ℕ) → x ≡ y → (x == y) ≡ true
-same_true x y is = (Decides-eqb x y).1 is
 
 pub other : (x y : ℕ) → (x == y) ≡ false → x ≢ y
 other x y is = λ (equal : x ≡ y). absurd (true_is_false (sym (same_true x y equal) ∙ is))
   where
     true_is_false : true ≡ false → ⊥
     true_is_false p = cc
-
-pub not_same : (x y : ℕ) → x ≢ y → (x == y) ≡ false
-not_same x y differ = elim (x == y) as (λ t. (x == y) ≡ t → t ≡ false) [ true ↦ λ is. absurd (differ (same x y is)) | false ↦ λ is. refl ] refl
-
-pub not_false : (x : Bool) → not x ≡ true → x ≡ false
-not_false true is = sym is
-not_false false is = refl
 
 -- each rule is met
 abbrev pub AreMet : List (Bool × BlockRefused) → Type 0

@@ -47,7 +47,8 @@ fn push_row(rows: &mut Packed, table: &Table, row: u32) -> Result<(), AllocError
     requires row { row < length table.now.nodes }
     requires width { rows.old.width ≡ table.now.params.d }
     ensures width { rows.new.width ≡ rows.old.width }
-    ensures nodes { OnOk result (rows.new.nodes ≡ rows.old.nodes ++ forgotten (node_at table.now.nodes row) ∷ []) }
+    ensures nodes { let node = forgotten (node_at table.now.nodes row) in
+        OnOk result (rows.new.nodes ≡ rows.old.nodes ++ node ∷ []) }
 {
     table.known();
     rows.push(
@@ -73,9 +74,11 @@ impl Frozen {
     /// The rows of a table, for good (the freeze of FreshDiskANN, section 5.2). The only error is want of memory.
     pub fn from_table(alloc: Global, table: &Table) -> Result<Frozen, AllocError>
         // Each row has the Pid, the tag, the vector and the neighbours that it has in the table.
-        ensures frozen { IfOk result (λ frozen. frozen ≡ record { params = table.now.params; nodes = frozen_of table.now.nodes }) }
+        ensures frozen { IfOk result (λ frozen.
+            frozen ≡ record { params = table.now.params; nodes = frozen_of table.now.nodes }) }
         // So a walk reads the same rows, and the graph by Pids is the table's.
-        ensures rows { IfOk result (λ frozen. AreSameRows (rows_of table.now.params table.now.nodes) (rows_of frozen.params frozen.nodes)) }
+        ensures rows { IfOk result (λ frozen.
+            AreSameRows (rows_of table.now.params table.now.nodes) (rows_of frozen.params frozen.nodes)) }
         ensures graph { IfOk result (λ frozen. graph_of frozen.nodes ≡ graph_of table.now.nodes) }
     {
         table.known();

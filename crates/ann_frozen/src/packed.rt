@@ -1,5 +1,5 @@
 ghost use Rattle.std.specs.Prelude.{◌≡◌, ◌≤◌, ◌<◌, ◌+◌, ◌++◌, ◌∷◌, [], length, IfOk, OnOk, OnErr, vec_len, vec_capacity};
-ghost use Rattle.ann_table.specs.Node.{node_at, row_pid};
+ghost use Rattle.ann_table.specs.Node.{new_node, node_at, row_pid};
 
 use crate::label::Label;
 use ann_types::{Pid, Tag};
@@ -64,7 +64,7 @@ impl Packed {
         requires vector { length vector.now ≡ self.old.width }
         requires few { length neighbours.now ≤ 128 }
         ensures width { self.new.width ≡ self.old.width }
-        ensures nodes { OnOk result (self.new.nodes ≡ self.old.nodes ++ (record { pid = pid; tag = tag; vector = vector.now; links = neighbours.now; newer = 0 }) ∷ []) }
+        ensures nodes { OnOk result (self.new.nodes ≡ self.old.nodes ++ new_node pid tag vector.now neighbours.now ∷ []) }
         ensures kept { OnErr result (self.new.nodes ≡ self.old.nodes) }
     {
         self.labels.reserve(1)?;

@@ -1,5 +1,5 @@
 ghost use Rattle.std.specs.Prelude.{◌<◌, IfOk, All};
-ghost use Rattle.ann_graph_tests.specs.Grid.{apart_on_grid, grid_itself};
+ghost use Rattle.ann_graph_tests.specs.Grid.{apart_on_grid, grid_itself, grid_symmetric};
 
 use ann_prune::{Candidates, Metric, prune, prune_newer};
 use ann_types::Params;
@@ -16,6 +16,8 @@ impl Metric for Grid {
     ghost size = { λ grid. 9 };
 
     ghost near_itself = { λ grid x. grid_itself x };
+
+    ghost symmetric = { λ grid x y. grid_symmetric x y };
 
     fn count(&self) -> u32 {
         9

@@ -9,7 +9,7 @@ use Rattle.std.proofs.Math.Seq.{take-suc}
 use Rattle.std.proofs.lemmas.Map.Keys.{IsDistinct-push}
 use Rattle.std.proofs.lemmas.Map.Steps.{length-le_from_distinct_below}
 use Rattle.ann_pool.specs.declared.item.Item.{Item}
-use Rattle.ann_pool.specs.Pool.{pooled, fresh, unvisited, marked, Shown}
+use Rattle.ann_pool.specs.Pool.{pooled, fresh, unvisited, marked, PoolView}
 use Rattle.ann_types.specs.Order.{placed, all_placed, in_order, has}
 use Rattle.ann_types.specs.Walk.{Ground, met, near, next, walk_on, visited_of}
 use Rattle.ann_types.proofs.Ordered.{IsRising, all_placed-append, rising_placed, rising_in_order, in_order_rising, rising_take, placed_there, has_placed, has_from_take}
@@ -29,20 +29,20 @@ kept_has : (far : ℕ → ℕ) (x z : ℕ) (order : List ℕ) → has order z �
 kept_has far x z order h = has_placed far x z order ∙ ap (λ t. eqb z x || t) h ∙ or_true (eqb z x)
 
 -- a pool that was cleared shows nothing
-pub shows_none : (far : ℕ → ℕ) (n : ℕ) (pool : Shown) → pool ≡ record { limit = n; items = []; known = [] } → Shows far [] [] pool
+pub shows_none : (far : ℕ → ℕ) (n : ℕ) (pool : PoolView) → pool ≡ record { limit = n; items = []; met = [] } → Shows far [] [] pool
 shows_none far n pool e = subst (Shows far [] []) (sym e) (record {
   rising = refl;
   marks = λ z h. absurd (false≢true h);
   items = sym (ap (map (item far [])) (take_all n [] (omega arith)));
-  known = λ z h. absurd (false≢true h);
+  met = λ z h. absurd (false≢true h);
 })
 
 -- a row that the pool knows was met, so that nothing changes
-pub shows_known : (far : ℕ → ℕ) (visited order : List ℕ) (pool : Shown) (x : ℕ) → has pool.known x ≡ true → Shows far visited order pool → Shows far visited (placed far x order) pool
-shows_known far visited order pool x k w = subst (λ (t : List ℕ). Shows far visited t pool) (sym (placed_there far x order (rising_from far order w.rising) (w.known x k))) w
+pub shows_known : (far : ℕ → ℕ) (visited order : List ℕ) (pool : PoolView) (x : ℕ) → has pool.met x ≡ true → Shows far visited order pool → Shows far visited (placed far x order) pool
+shows_known far visited order pool x k w = subst (λ (t : List ℕ). Shows far visited t pool) (sym (placed_there far x order (rising_from far order w.rising) (w.met x k))) w
 
 -- a row that is offered
-pub shows_offered : (far : ℕ → ℕ) (visited order : List ℕ) (old new : Shown) (x : ℕ) → new.limit ≡ old.limit → new.items ≡ pooled old.limit (fresh (far x) x) old.items → ((z : ℕ) → has new.known z ≡ true → (has old.known z ≡ true) ⊎ (z ≡ x)) → Shows far visited order old → Shows far visited (placed far x order) new
+pub shows_offered : (far : ℕ → ℕ) (visited order : List ℕ) (old new : PoolView) (x : ℕ) → new.limit ≡ old.limit → new.items ≡ pooled old.limit (fresh (far x) x) old.items → ((z : ℕ) → has new.met z ≡ true → (has old.met z ≡ true) ⊎ (z ≡ x)) → Shows far visited order old → Shows far visited (placed far x order) new
 shows_offered far visited order old new x limit items known w =
     let rising = rising_from far order w.rising in
     record {
@@ -52,14 +52,14 @@ shows_offered far visited order old new x limit items known w =
           items ∙ ap (pooled old.limit (fresh (far x) x)) w.items
           ∙ pooled_is far visited old.limit x order rising (w.marks x)
           ∙ ap (λ n. map (item far visited) (take n (placed far x order))) (sym limit);
-      known = λ z h. elim (known z h) [
-        | inl k ↦ kept_has far x z order (w.known z k)
+      met = λ z h. elim (known z h) [
+        | inl k ↦ kept_has far x z order (w.met z k)
         | inr e ↦ has_placed far x z order ∙ ap (λ t. t || has order z) (eq-eqb z x e)
       ];
     }
 
 -- the walk goes on: the least unvisited item is marked, and its neighbours are met
-pub goes_on : (g : Ground) (visited : List ℕ) (x : Item) (old middle new : Shown) → ShowsWalk g visited old → Some x ≡ find unvisited old.items → middle.limit ≡ old.limit → middle.items ≡ marked old.items → middle.known ≡ old.known → ((v order : List ℕ) → Shows g.far v order middle → Shows g.far v (all_placed g.far order (g.links x.number)) new) → GoesOn g visited x.number old new
+pub goes_on : (g : Ground) (visited : List ℕ) (x : Item) (old middle new : PoolView) → ShowsWalk g visited old → Some x ≡ find unvisited old.items → middle.limit ≡ old.limit → middle.items ≡ marked old.items → middle.met ≡ old.met → ((v order : List ℕ) → Shows g.far v order middle → Shows g.far v (all_placed g.far order (g.links x.number)) new) → GoesOn g visited x.number old new
 goes_on g visited x old middle new w f limit marks known offers =
     let order : List ℕ = in_order g.far (met g visited) in
     let nearest : List ℕ = take old.limit order in
@@ -76,7 +76,7 @@ goes_on g visited x old middle new w f limit marks known offers =
         | inr e ↦ subst (λ (t : ℕ). has order t ≡ true) (sym (eqb-true z x.number e)) there
       ];
       items = marks ∙ ap marked w.items ∙ marked_is g.far visited x.number nearest (rising_take g.far old.limit order rising) is ∙ ap (λ n. map (item g.far (visited ++ x.number ∷ [])) (take n order)) (sym limit);
-      known = λ z h. w.known z (subst (λ (t : List ℕ). has t z ≡ true) known h);
+      met = λ z h. w.met z (subst (λ (t : List ℕ). has t z ≡ true) known h);
     } in
     record {
       next = is;
@@ -84,7 +84,7 @@ goes_on g visited x old middle new w f limit marks known offers =
     }
 
 -- the walk is over where no item is unmarked
-pub is_over : (g : Ground) (visited : List ℕ) (old new : Shown) → ShowsWalk g visited old → None ≡ find unvisited old.items → new.limit ≡ old.limit → new.items ≡ marked old.items → IsOver g visited new
+pub is_over : (g : Ground) (visited : List ℕ) (old new : PoolView) → ShowsWalk g visited old → None ≡ find unvisited old.items → new.limit ≡ old.limit → new.items ≡ marked old.items → IsOver g visited new
 is_over g visited old new w none limit marks =
     let nearest : List ℕ = near g old.limit visited in
     let over : next g old.limit visited ≡ None = none_map (item g.far visited) (find (λ r. not (has visited r)) nearest) (none ∙ ap (find unvisited) w.items ∙ find_item g.far visited nearest) in
@@ -100,7 +100,7 @@ abbrev pub AreBelow : ℕ → List ℕ → Type 0
 AreBelow n s = AllByRecursion (λ z. z < n) s
 
 -- the pool shows a walk of this width with at most `left` visits to go
-pub record Pooling (g : Ground) (width count left : ℕ) (visited : List ℕ) (pool : Shown) : Type 0 where
+pub record Pooling (g : Ground) (width count left : ℕ) (visited : List ℕ) (pool : PoolView) : Type 0 where
   pub limit : pool.limit ≡ width
   pub shows : ShowsWalk g visited pool
   pub rest : walk_on g width left visited ≡ visited_of g width count
@@ -112,7 +112,7 @@ distinct_nil : IsDistinct eqb []
 unfolding IsDistinct
 distinct_nil = tt
 
-pub pooling_from : (g : Ground) (width count left : ℕ) (pool : Shown) → left ≡ count → pool.limit ≡ width → ShowsWalk g [] pool → Pooling g width count left [] pool
+pub pooling_from : (g : Ground) (width count left : ℕ) (pool : PoolView) → left ≡ count → pool.limit ≡ width → ShowsWalk g [] pool → Pooling g width count left [] pool
 pooling_from g width count left pool l limit w = record {
   limit = limit;
   shows = w;
@@ -130,7 +130,7 @@ below_has : (n p : ℕ) (s : List ℕ) → AreBelow n s → has s p ≡ true →
 below_has n p [] a h = absurd (false≢true h)
 below_has n p (x ∷ s) a h = elim (or_cases (eqb p x) (has s p) h) [ inl e ↦ subst (λ (t : ℕ). t < n) (sym (eqb-true p x e)) a.0 | inr k ↦ below_has n p s a.1 k ]
 
-pub pooling_more : (g : Ground) (width count left left' row : ℕ) (visited : List ℕ) (old new : Shown) → Pooling g width count left visited old → left ≡ left' + 1 → row < count → new.limit ≡ old.limit → GoesOn g visited row old new → Pooling g width count left' (visited ++ row ∷ []) new
+pub pooling_more : (g : Ground) (width count left left' row : ℕ) (visited : List ℕ) (old new : PoolView) → Pooling g width count left visited old → left ≡ left' + 1 → row < count → new.limit ≡ old.limit → GoesOn g visited row old new → Pooling g width count left' (visited ++ row ∷ []) new
 pooling_more g width count left left' row visited old new w l inside limit step =
     let got : next g width visited ≡ Some row = ap (λ n. next g n visited) (sym w.limit) ∙ step.next in
     record {
@@ -143,7 +143,7 @@ pooling_more g width count left left' row visited old new w l inside limit step 
     }
 
 -- the visits are those of the walk where there is no next point
-pub pooling_stops : (g : Ground) (width count left : ℕ) (visited : List ℕ) (old new : Shown) → Pooling g width count left visited old → new.limit ≡ old.limit → IsOver g visited new → (visited ≡ visited_of g width count) × (new.items ≡ map (seen g.far) (near g width (visited_of g width count)))
+pub pooling_stops : (g : Ground) (width count left : ℕ) (visited : List ℕ) (old new : PoolView) → Pooling g width count left visited old → new.limit ≡ old.limit → IsOver g visited new → (visited ≡ visited_of g width count) × (new.items ≡ map (seen g.far) (near g width (visited_of g width count)))
 pooling_stops g width count left visited old new w limit over =
     let none : next g width visited ≡ None = ap (λ n. next g n visited) (sym (limit ∙ w.limit)) ∙ over.none in
     let whole : visited ≡ visited_of g width count = sym (walk_stops g width left visited none) ∙ w.rest in
@@ -165,7 +165,7 @@ none_left n v p d b l h new =
     let size = length_push v p in omega arith
 
 -- and so they are where as many points were visited as there are
-pub pooling_out : (g : Ground) (width count left : ℕ) (visited : List ℕ) (pool : Shown) → Pooling g width count left visited pool → left ≡ 0 → AreRows count pool.items → (visited ≡ visited_of g width count) × (pool.items ≡ map (seen g.far) (near g width (visited_of g width count)))
+pub pooling_out : (g : Ground) (width count left : ℕ) (visited : List ℕ) (pool : PoolView) → Pooling g width count left visited pool → left ≡ 0 → AreRows count pool.items → (visited ≡ visited_of g width count) × (pool.items ≡ map (seen g.far) (near g width (visited_of g width count)))
 pooling_out g width count left visited pool w e rows =
     let nearest : List ℕ = near g pool.limit visited in
     let c = w.count_is in
@@ -177,7 +177,7 @@ pooling_out g width count left visited pool w e rows =
     pooling_stops g width count left visited pool pool w refl (record { none = none; near = w.shows.items ∙ all_seen g.far visited nearest none })
 
 -- the steps of a walk over links that the code read
-pub goes_on_along : (g : Ground) (visited : List ℕ) (x : Item) (old middle new : Shown) (links : List ℕ) → links ≡ g.links x.number → ShowsWalk g visited old → Some x ≡ find unvisited old.items → middle.limit ≡ old.limit → middle.items ≡ marked old.items → middle.known ≡ old.known → ((v order : List ℕ) → Shows g.far v order middle → Shows g.far v (all_placed g.far order links) new) → GoesOn g visited x.number old new
+pub goes_on_along : (g : Ground) (visited : List ℕ) (x : Item) (old middle new : PoolView) (links : List ℕ) → links ≡ g.links x.number → ShowsWalk g visited old → Some x ≡ find unvisited old.items → middle.limit ≡ old.limit → middle.items ≡ marked old.items → middle.met ≡ old.met → ((v order : List ℕ) → Shows g.far v order middle → Shows g.far v (all_placed g.far order links) new) → GoesOn g visited x.number old new
 goes_on_along g visited x old middle new links is w f limit marks known offers =
     goes_on g visited x old middle new w f limit marks known (λ v order shown. subst (λ (t : List ℕ). Shows g.far v (all_placed g.far order t) new) is (offers v order shown))
 
@@ -186,5 +186,5 @@ pub all_placed_one : (far : ℕ → ℕ) (s xs : List ℕ) (i d : ℕ) → i < l
 all_placed_one far s xs i d within = ap (all_placed far s) (ap (λ n. take n xs) (add-one i) ∙ take-suc xs i d within) ∙ all_placed-append far s (take i xs) (get_or xs i d ∷ [])
 
 -- the same visits
-pub pooling_same : (g : Ground) (width count left : ℕ) (v v' : List ℕ) (pool : Shown) → v' ≡ v → Pooling g width count left v pool → Pooling g width count left v' pool
+pub pooling_same : (g : Ground) (width count left : ℕ) (v v' : List ℕ) (pool : PoolView) → v' ≡ v → Pooling g width count left v pool → Pooling g width count left v' pool
 pooling_same g width count left v v' pool e w = subst (λ (t : List ℕ). Pooling g width count left t pool) (sym e) w

@@ -1,4 +1,4 @@
-ghost use Rattle.std.specs.Prelude.{◌≡◌, ◌≢◌, ◌≤◌, ◌<◌, length, IfSome, All};
+ghost use Rattle.std.specs.Prelude.{◌≡◌, ◌≢◌, ◌≤◌, ◌<◌, ◌↔◌, length, IfSome, IsNone, All};
 ghost use Rattle.ann_greedy.specs.Rows.{Rows};
 
 /// A graph that a walk reads, by rows.
@@ -15,7 +15,8 @@ pub trait Graph {
     /// The row that walks begin at.
     fn entry(&self) -> Option<u32>
         ensures start { result ≡ (rows self.now).start }
-        ensures inside { IfSome result (λ row. row < (rows self.now).count) };
+        ensures inside { IfSome result (λ row. row < (rows self.now).count) }
+        ensures none { IsNone result ↔ ((rows self.now).count ≡ 0) };
 
     /// The vector of a row.
     fn vector(&self, row: u32) -> &[u8]
@@ -28,5 +29,6 @@ pub trait Graph {
     fn neighbours(&self, row: u32) -> &[u32]
         requires { row < (rows self.now).count }
         ensures links { result.now ≡ (rows self.now).links row }
-        ensures inside { All (λ other. other < (rows self.now).count) result.now };
+        ensures inside { All (λ other. other < (rows self.now).count) result.now }
+        ensures others { All (λ other. other ≢ row) result.now };
 }

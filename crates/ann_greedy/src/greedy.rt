@@ -1,11 +1,9 @@
-ghost use Rattle.std.specs.Prelude.{◌≡◌, ◌≤◌, ◌<◌, ℕ, List, [], Some, length, map, All, IfSome, OnOk};
-ghost use Rattle.ann_types.specs.Order.{placed, all_placed};
-ghost use Rattle.std.specs.List.{AllByRecursion};
-ghost use Rattle.ann_greedy.specs.Rows.{Rows, far_row, ground_at, near_rows, visited_rows};
-ghost use Rattle.ann_greedy.specs.Shows.{AreFar, AreRows, Shows, ShowsWalk, Steps, seen};
+ghost use Rattle.std.specs.Prelude.{◌≡◌, ◌<◌, [], ◌∷◌, Some, length, All, IfSome};
+ghost use Rattle.ann_greedy.specs.Rows.{ground_at};
+ghost use Rattle.ann_greedy.specs.Shows.{IsOf, IsKept, Meets, ShowsWalk, StepsOn, IsWalked, IsNoted};
 
 use crate::graph::Graph;
-use ann_lanes::squared;
+use ann_lanes::{squared, touched};
 use ann_pool::Pool;
 use std::alloc::AllocError;
 
@@ -13,30 +11,38 @@ use std::alloc::AllocError;
 fn offer<G: Graph>(graph: &G, query: &[u8], pool: &mut Pool, row: u32)
     requires row { row < (G.rows graph.now).count }
     requires width { length query.now ≡ (G.rows graph.now).width }
-    requires far { AreFar (far_row (G.rows graph.now) query.now) pool.old.items }
-    requires rows { AreRows (G.rows graph.now).count pool.old.items }
-    ensures limit { pool.new.limit ≡ pool.old.limit }
-    ensures far { AreFar (far_row (G.rows graph.now) query.now) pool.new.items }
-    ensures rows { AreRows (G.rows graph.now).count pool.new.items }
-    ensures shows { (visited order : List ℕ) → Shows (far_row (G.rows graph.now) query.now) visited order pool.old → Shows (far_row (G.rows graph.now) query.now) visited (placed (far_row (G.rows graph.now) query.now) row order) pool.new }
+    requires of { IsOf (G.rows graph.now) query.now pool.old }
+    ensures kept { IsKept (G.rows graph.now) query.now pool.old pool.new }
+    ensures shows { Meets (G.rows graph.now) query.now (row ∷ []) pool.old pool.new }
 {
-    if pool.knows(row) {
+    if pool.has_met(row) {
         return;
     }
     pool.offer(squared(query, graph.vector(row)), row);
+}
+
+/// Reads a little of the vector of each row that the pool doesn't know, so that these come from memory side by side.
+fn touch_all<G: Graph>(graph: &G, pool: &Pool, rows: &[u32]) -> u8
+    requires { All (λ row. row < (G.rows graph.now).count) rows.now }
+{
+    let mut byte = 0;
+    for ahead in rows {
+        if !pool.has_met(*ahead) {
+            byte ^= touched(graph.vector(*ahead));
+        }
+    }
+    byte
 }
 
 /// Offers rows in turn.
 fn offer_all<G: Graph>(graph: &G, query: &[u8], pool: &mut Pool, rows: &[u32])
     requires inside { All (λ row. row < (G.rows graph.now).count) rows.now }
     requires width { length query.now ≡ (G.rows graph.now).width }
-    requires far { AreFar (far_row (G.rows graph.now) query.now) pool.old.items }
-    requires rows { AreRows (G.rows graph.now).count pool.old.items }
-    ensures limit { pool.new.limit ≡ pool.old.limit }
-    ensures far { AreFar (far_row (G.rows graph.now) query.now) pool.new.items }
-    ensures rows { AreRows (G.rows graph.now).count pool.new.items }
-    ensures shows { (visited order : List ℕ) → Shows (far_row (G.rows graph.now) query.now) visited order pool.old → Shows (far_row (G.rows graph.now) query.now) visited (all_placed (far_row (G.rows graph.now) query.now) order rows.now) pool.new }
+    requires of { IsOf (G.rows graph.now) query.now pool.old }
+    ensures kept { IsKept (G.rows graph.now) query.now pool.old pool.new }
+    ensures shows { Meets (G.rows graph.now) query.now rows.now pool.old pool.new }
 {
+    pool.keep_warm(touch_all(graph, pool, rows));
     for row in rows {
         offer(graph, query, pool, *row);
     }
@@ -45,13 +51,10 @@ fn offer_all<G: Graph>(graph: &G, query: &[u8], pool: &mut Pool, rows: &[u32])
 /// Visits the next point of a walk from an entry: marks it and meets its neighbours.
 fn visit_next<G: Graph>(graph: &G, query: &[u8], pool: &mut Pool) -> Option<u32>
     requires width { length query.now ≡ (G.rows graph.now).width }
-    requires far { AreFar (far_row (G.rows graph.now) query.now) pool.old.items }
-    requires rows { AreRows (G.rows graph.now).count pool.old.items }
+    requires of { IsOf (G.rows graph.now) query.now pool.old }
     ensures row { IfSome result (λ row. row < (G.rows graph.now).count) }
-    ensures limit { pool.new.limit ≡ pool.old.limit }
-    ensures far { AreFar (far_row (G.rows graph.now) query.now) pool.new.items }
-    ensures rows { AreRows (G.rows graph.now).count pool.new.items }
-    ensures steps { (entry : ℕ) → Steps (ground_at (G.rows graph.now) query.now entry) pool.old pool.new result }
+    ensures kept { IsKept (G.rows graph.now) query.now pool.old pool.new }
+    ensures steps { StepsOn (G.rows graph.now) query.now pool.old pool.new result }
 {
     match pool.next_unvisited() {
         Some(item) => {
@@ -66,9 +69,7 @@ fn visit_next<G: Graph>(graph: &G, query: &[u8], pool: &mut Pool) -> Option<u32>
 fn begin<G: Graph>(graph: &G, query: &[u8], pool: &mut Pool, entry: u32)
     requires entry { entry < (G.rows graph.now).count }
     requires width { length query.now ≡ (G.rows graph.now).width }
-    ensures limit { pool.new.limit ≡ pool.old.limit }
-    ensures far { AreFar (far_row (G.rows graph.now) query.now) pool.new.items }
-    ensures rows { AreRows (G.rows graph.now).count pool.new.items }
+    ensures kept { IsKept (G.rows graph.now) query.now pool.old pool.new }
     ensures shows { ShowsWalk (ground_at (G.rows graph.now) query.now entry) [] pool.new }
 {
     pool.clear(pool.limit());
@@ -79,8 +80,7 @@ fn begin<G: Graph>(graph: &G, query: &[u8], pool: &mut Pool, entry: u32)
 fn walk_from<G: Graph>(graph: &G, query: &[u8], pool: &mut Pool, entry: u32)
     requires entry { entry < (G.rows graph.now).count }
     requires width { length query.now ≡ (G.rows graph.now).width }
-    ensures limit { pool.new.limit ≡ pool.old.limit }
-    ensures near { pool.new.items ≡ map (seen (far_row (G.rows graph.now) query.now)) (near_rows (G.rows graph.now) query.now pool.old.limit (Some entry)) }
+    ensures { IsWalked (G.rows graph.now) query.now (Some entry) pool.old pool.new }
 {
     begin(graph, query, pool, entry);
     for turn in 0..graph.count() {
@@ -96,8 +96,7 @@ fn walk_from<G: Graph>(graph: &G, query: &[u8], pool: &mut Pool, entry: u32)
 /// Leaves in the pool the points near the query, every item marked. Takes no memory.
 pub fn walk<G: Graph>(graph: &G, query: &[u8], pool: &mut Pool)
     requires { length query.now ≡ (G.rows graph.now).width }
-    ensures limit { pool.new.limit ≡ pool.old.limit }
-    ensures near { pool.new.items ≡ map (seen (far_row (G.rows graph.now) query.now)) (near_rows (G.rows graph.now) query.now pool.old.limit (G.rows graph.now).start) }
+    ensures { IsWalked (G.rows graph.now) query.now (G.rows graph.now).start pool.old pool.new }
 {
     match graph.entry() {
         Some(entry) => walk_from(graph, query, pool, entry),
@@ -116,10 +115,7 @@ fn walk_noted<G: Graph>(
     requires entry { entry < (G.rows graph.now).count }
     requires width { length query.now ≡ (G.rows graph.now).width }
     requires empty { visited.old.items ≡ [] }
-    ensures limit { pool.new.limit ≡ pool.old.limit }
-    ensures near { OnOk result (pool.new.items ≡ map (seen (far_row (G.rows graph.now) query.now)) (near_rows (G.rows graph.now) query.now pool.old.limit (Some entry))) }
-    ensures visited { OnOk result (visited.new.items ≡ visited_rows (G.rows graph.now) query.now pool.old.limit (Some entry)) }
-    ensures rows { AllByRecursion (λ row. row < (G.rows graph.now).count) visited.new.items }
+    ensures { IsNoted (G.rows graph.now) query.now (Some entry) result pool.old pool.new visited.new.items }
 {
     begin(graph, query, pool, entry);
     for turn in 0..graph.count() {
@@ -141,10 +137,8 @@ pub fn walk_visited<G: Graph>(
     visited: &mut Vec<u32>,
 ) -> Result<(), AllocError>
     requires { length query.now ≡ (G.rows graph.now).width }
-    ensures limit { pool.new.limit ≡ pool.old.limit }
-    ensures near { OnOk result (pool.new.items ≡ map (seen (far_row (G.rows graph.now) query.now)) (near_rows (G.rows graph.now) query.now pool.old.limit (G.rows graph.now).start)) }
-    ensures visited { OnOk result (visited.new.items ≡ visited_rows (G.rows graph.now) query.now pool.old.limit (G.rows graph.now).start) }
-    ensures rows { AllByRecursion (λ row. row < (G.rows graph.now).count) visited.new.items }
+    ensures { let rows = G.rows graph.now in
+        IsNoted rows query.now rows.start result pool.old pool.new visited.new.items }
 {
     visited.clear();
     match graph.entry() {

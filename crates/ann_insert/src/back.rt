@@ -6,9 +6,32 @@ ghost use Rattle.ann_insert.specs.Back.{IsBehind, AreApart, AreSameButLinks, Are
 
 use crate::gather::{add_within, gather};
 use ann_greedy::Graph;
+use ann_lanes::touched;
 use ann_prune::{Candidates, prune_newer};
 use ann_table::Table;
 use arrayvec::ArrayVec;
+
+/// Reads a little of the vector of each row, so that these come from memory side by side.
+fn touch_all(table: &Table, rows: &[u32]) -> u8
+    requires { All (λ row. row < length table.now.nodes) rows.now }
+{
+    let mut byte = 0;
+    for row in rows {
+        byte ^= touched(table.vector(*row));
+    }
+    byte
+}
+
+/// Adds rows in turn, within the room that there is, and reads a little of their vectors ahead of the prune.
+fn gather_warm(table: &Table, candidates: &mut Candidates, rows: &[u32])
+    requires inside { All (λ row. row < length table.now.nodes) rows.now }
+    requires room { length rows.now ≤ candidates.old.room }
+    ensures rows { candidates.new.rows ≡ candidates.old.rows ++ rows.now }
+    ensures room { candidates.old.room ≤ candidates.new.room + length rows.now }
+{
+    candidates.keep_warm(touch_all(table, rows));
+    gather(candidates, rows);
+}
 
 /// Links a row back to a new one: the new one is a neighbour of it, or its neighbours are what a prune keeps where they
 /// would be more than R.
@@ -26,7 +49,10 @@ fn link_back(
     requires empty { candidates.old.rows ≡ [] }
     requires room { most ≤ candidates.old.room }
     ensures params { table.new.params ≡ table.old.params }
-    ensures nodes { table.new.nodes ≡ linked table.old.nodes row (within (rule_of table.old.params) (apart_rows table.old.nodes) row ((node_at table.old.nodes row).links ++ new ∷ [])) (node_at table.new.nodes row).newer }
+    ensures nodes { let rule = rule_of table.old.params in
+        let wanted = (node_at table.old.nodes row).links ++ new ∷ [] in
+        let links = within rule (apart_rows table.old.nodes) row wanted in
+        table.new.nodes ≡ linked table.old.nodes row links (node_at table.new.nodes row).newer }
     ensures emptied { candidates.new.rows ≡ [] }
     ensures kept { most ≤ candidates.new.room }
 {
@@ -35,7 +61,7 @@ fn link_back(
         table.link(row, new);
         return;
     }
-    gather(candidates, table.neighbours(row));
+    gather_warm(table, candidates, table.neighbours(row));
     add_within(candidates, new);
     prune_newer(
         table,
@@ -64,7 +90,8 @@ pub(crate) fn link_all_back(
     requires room { most ≤ candidates.old.room }
     ensures params { table.new.params ≡ table.old.params }
     ensures same { AreSameButLinks table.old.nodes table.new.nodes }
-    ensures linked { (apart : ℕ → ℕ → ℕ) → AreApart apart table.old.nodes → AreLinkedBack (rule_of table.old.params) apart new rows.now table.old.nodes table.new.nodes }
+    ensures linked { (apart : ℕ → ℕ → ℕ) → AreApart apart table.old.nodes
+        → AreLinkedBack (rule_of table.old.params) apart new rows.now table.old.nodes table.new.nodes }
 {
     table.known();
     for row in rows {

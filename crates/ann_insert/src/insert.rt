@@ -1,8 +1,9 @@
 ghost use Rattle.std.specs.Prelude.{◌≡◌, ◌≤◌, ◌<◌, ◌++◌, ◌∷◌, [], length, All, OnOk, OnErr};
 ghost use Rattle.ann_types.specs.Put.{put as put_of};
 ghost use Rattle.ann_types.specs.Kept.{rule_of, kept as kept_by};
+ghost use Rattle.ann_types.specs.Legal.{pid_end};
 ghost use Rattle.ann_greedy.specs.Rows.{visited_rows};
-ghost use Rattle.ann_table.specs.Node.{node_at, linked, rows_of, first_row, apart_rows, row_pids, graph_of};
+ghost use Rattle.ann_table.specs.Node.{node_at, linked, rows_of, apart_rows, row_pids, graph_of};
 ghost use Rattle.ann_insert.specs.Back.{most};
 
 use crate::back::link_all_back;
@@ -26,7 +27,9 @@ fn prepare(table: &mut Table, scratch: &mut PutScratch, vector: &[u8]) -> Result
     ensures params { table.new.params ≡ table.old.params }
     ensures nodes { table.new.nodes ≡ table.old.nodes }
     ensures spare { OnOk result (1 ≤ table.new.spare) }
-    ensures visited { OnOk result (scratch.new.visited.items ≡ visited_rows (rows_of table.old.params table.old.nodes) vector.now table.old.params.l_build (first_row table.old.nodes)) }
+    ensures visited { let rows = rows_of table.old.params table.old.nodes in
+        OnOk result
+        (scratch.new.visited.items ≡ visited_rows rows vector.now table.old.params.l_build rows.start) }
     ensures rows { All (λ row. row < length table.old.nodes) scratch.new.visited.items }
     ensures empty { scratch.new.candidates.rows ≡ [] }
     ensures room { OnOk result (length scratch.new.visited.items ≤ scratch.new.candidates.room) }
@@ -77,12 +80,13 @@ pub fn put(
     vector: &[u8],
 ) -> Result<(), AllocError>
     requires above { All (λ node. node.pid < pid) table.old.nodes }
-    requires small { pid < 4294967295 }
+    requires small { pid < pid_end }
     requires vector { length vector.now ≡ table.old.params.d }
     ensures params { table.new.params ≡ table.old.params }
 
     // The graph is the one that the definition gives.
-    ensures put { OnOk result (graph_of table.new.nodes ≡ put_of table.old.params (graph_of table.old.nodes) pid tag vector.now) }
+    ensures put { let graph = graph_of table.old.nodes in
+        OnOk result (graph_of table.new.nodes ≡ put_of table.old.params graph pid tag vector.now) }
 
     // So the point's row comes behind all others.
     ensures pids { OnOk result (row_pids table.new.nodes ≡ row_pids table.old.nodes ++ pid ∷ []) }

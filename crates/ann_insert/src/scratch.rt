@@ -1,4 +1,4 @@
-ghost use Rattle.std.specs.Prelude.{◌≡◌};
+ghost use Rattle.std.specs.Prelude.{◌≡◌, [], IfOk};
 
 use ann_pool::Pool;
 use ann_prune::Candidates;
@@ -19,8 +19,12 @@ pub struct PutScratch {
 }
 
 impl PutScratch {
-    /// A scratch for inserts. The only error is want of memory.
-    pub fn new(alloc: Global) -> Result<PutScratch, AllocError> {
+    /// A scratch for inserts, without anything in it. The only error is want of memory.
+    pub fn new(alloc: Global) -> Result<PutScratch, AllocError>
+        ensures pool { IfOk result (λ scratch. scratch.pool.items ≡ []) }
+        ensures rows { IfOk result (λ scratch. (scratch.visited.items ≡ []) × (scratch.candidates.rows ≡ [])) }
+        ensures kept { IfOk result (λ scratch. (scratch.kept.items ≡ []) × (scratch.kept_back.items ≡ [])) }
+    {
         Ok(PutScratch {
             pool: Pool::with_room(alloc)?,
             visited: Vec::new(alloc),

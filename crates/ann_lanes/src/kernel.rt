@@ -19,7 +19,7 @@ fn differences_at(x: &[u8], y: &[u8], at: usize) -> u8x16
 
 /// The square of each lane.
 #[inline(always)]
-fn squares_of(differences: u8x16) -> u32x16
+pub fn squares_of(differences: u8x16) -> u32x16
     requires small { Each1 (λ difference. difference ≤ 255) differences }
     requires lanes { length differences ≡ 16 }
     ensures value { result ≡ map square differences }
@@ -63,4 +63,14 @@ pub fn squared(x: &[u8], y: &[u8]) -> u32
     }
     let whole = 16 * blocks;
     sums.strict_reduce_sum() + squared_rest(&x[whole..], &y[whole..])
+}
+
+/// A byte made of the first component, the one 64 places behind it and the last one.
+///
+/// Taken of vectors that are compared soon, all before the first is compared: so their memory is read side by side.
+#[inline(always)]
+pub fn touched(vector: &[u8]) -> u8 {
+    let first = vector.first().copied().unwrap_or(0);
+    let second = vector.get(64).copied().unwrap_or(0);
+    first ^ second ^ vector.last().copied().unwrap_or(0)
 }

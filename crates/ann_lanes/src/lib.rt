@@ -5,4 +5,4 @@
 
 mod kernel;
 
-pub use kernel::squared;
+pub use kernel::{squared, squares_of, touched};

@@ -18,7 +18,7 @@ use Rattle.ann_types.proofs.Judged.{judged}
 use Rattle.ann_types.proofs.Tagged.{next_pid_ends, tags_differ}
 use Rattle.ann_tags.specs.Tags.{Pids, map_of}
 use Rattle.ann_tags.proofs.Maps.{live_is, found_none, pids_found, count_is}
-use Rattle.ann_pq.specs.Codebook.{Shown as ShownBook}
+use Rattle.ann_pq.specs.Codebook.{CodebookView}
 use Rattle.ann_view.specs.Stands.{StandsFor}
 use Rattle.ann_view.specs.Steps.{FitsIn}
 use Rattle.ann_once.specs.Book.{zeros}
@@ -139,7 +139,7 @@ keeps_more h c s t keeps none same stands params book segment closed tags = reco
       ∙ keeps.lti;
   stands = stands;
   params = params ∙ keeps.params ∙ sym same;
-  book = ap (λ (b : ShownBook). b.book) book ∙ keeps.book ∙ ap (λ (p : Params). zeros p.d) (sym same);
+  book = ap (λ (b : CodebookView). b.book) book ∙ keeps.book ∙ ap (λ (p : Params). zeros p.d) (sym same);
   segment = segment ∙ keeps.segment;
   going = closed ∙ keeps.going;
   tags = tags ∙ ap map_of (sym (live_push h (entry_of 0 c)));

@@ -1,10 +1,25 @@
--- Places for numbers, most of them empty.
-use Rattle.std.specs.Prelude.{ℕ, Bool, List, ◌==◌, not, filter}
+-- Places for numbers, each with the tag of the walk that noted it.
+use Rattle.std.specs.Prelude.{ℕ, ◌+◌, ◌*◌, ◌≤◌, List, [], ◌∷◌, ◌==◌, ◌/◌, ◌%◌, suc, if◌then◌else◌}
+use Rattle.std.specs.List.{AllByRecursion}
 
--- a place that has a number
-abbrev pub is_taken : ℕ → Bool
-is_taken number = not (number == 4294967295)
+-- the tag of what stands in a place
+abbrev pub tag_of : ℕ → ℕ
+tag_of noted = noted / 1048576
 
--- the numbers in their places
-abbrev pub numbers_in : List ℕ → List ℕ
-numbers_in places = filter is_taken places
+-- the number that is noted in a place
+abbrev pub number_at : ℕ → ℕ → ℕ
+number_at place noted = (noted % 1048576) * 4096 + place
+
+-- the numbers with a tag, in the places from one on
+abbrev pub numbers_from : ℕ → ℕ → List ℕ → List ℕ
+numbers_from tag place [] = []
+numbers_from tag place (noted ∷ places) =
+    if tag_of noted == tag then number_at place noted ∷ numbers_from tag (suc place) places else numbers_from tag (suc place) places
+
+-- the numbers with a tag
+abbrev pub numbers_in : ℕ → List ℕ → List ℕ
+numbers_in tag places = numbers_from tag 0 places
+
+-- no place has a later tag
+abbrev pub AreTagged : ℕ → List ℕ → Type 0
+AreTagged tag places = AllByRecursion (λ noted. tag_of noted ≤ tag) places

@@ -44,10 +44,10 @@ abbrev pub IsSameWhereThere : Item → List Item → Type 0
 IsSameWhereThere x items = AllByRecursion (λ y. y.number ≡ x.number → y.distance ≡ x.distance) items
 
 -- a pool, as its limit, its items, and some of the numbers that were offered since it was cleared
-pub record Shown : Type 0 where
+pub record PoolView : Type 0 where
   pub limit : ℕ
   pub items : List Item
-  pub known : List ℕ
+  pub met : List ℕ
 
 -- an item that is offered
 abbrev pub fresh : ℕ → ℕ → Item

@@ -5,7 +5,7 @@
 #![tactic(auto)]
 
 mod item;
-mod known;
+mod met;
 mod pool;
 
 pub use item::Item;

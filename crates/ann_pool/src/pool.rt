@@ -1,10 +1,10 @@
 ghost use Rattle.std.specs.Prelude.{◌≡◌, ◌≤◌, ◌<◌, ◌⊎◌, ℕ, [], true, false, length, IfOk, IfSome, IsNone, ◌↔◌, Contains, find, insert, take, vec_len, vec_capacity};
 ghost use Rattle.ann_types.specs.Order.{has};
 ghost use Rattle.ann_pool.specs.Marks.{AreMarked, IsFirst};
-ghost use Rattle.ann_pool.specs.Pool.{item_before, IsInOrder, IsSameWhereThere, IsPlaceOf, offered, pooled, unvisited, marked, fresh, Shown};
+ghost use Rattle.ann_pool.specs.Pool.{item_before, IsInOrder, IsSameWhereThere, IsPlaceOf, offered, pooled, unvisited, marked, fresh, PoolView};
 
 use crate::item::Item;
-use crate::known::Known;
+use crate::met::Met;
 use std::alloc::{AllocError, Global};
 use std::marker::Model;
 
@@ -21,13 +21,15 @@ pub struct Pool {
     /// Every item before this place is marked, so that the next unmarked one is looked for from here on.
     next: usize,
     items: Vec<Item>,
-    known: Known,
+    met: Met,
+    /// What `keep_warm` was given, which is kept only so that the reading isn't left out.
+    warmth: u8,
 }
 
 impl Model for Pool {
-    ghost Value = { Shown };
+    ghost Value = { PoolView };
 
-    ghost view = { λ p. record { limit = p.limit; items = p.items.items; known = p.known } };
+    ghost view = { λ p. record { limit = p.limit; items = p.items.items; met = p.met } };
 
     ghost invariant = { λ p. (1 ≤ p.limit) × (p.limit ≤ 1000) × (vec_len p.items ≤ p.limit) × (1000 < vec_capacity p.items) × IsInOrder p.items.items × AreMarked p.next p.items.items };
 }
@@ -124,25 +126,26 @@ fn mark_at(items: &mut [Item], place: usize) -> Option<Item>
 impl Pool {
     /// A pool without items, of limit 1000 and with room for as many.
     pub fn with_room(alloc: Global) -> Result<Pool, AllocError>
-        ensures { IfOk result (λ pool. pool ≡ record { limit = 1000; items = []; known = [] }) }
+        ensures { IfOk result (λ pool. pool ≡ record { limit = 1000; items = []; met = [] }) }
     {
         Ok(Pool {
             limit: 1000,
             next: 0,
             items: Vec::with_capacity(alloc, ROOM + 1)?,
-            known: Known::new(alloc)?,
+            met: Met::new(alloc)?,
+            warmth: 0,
         })
     }
 
     /// Drops all items, and sets how many there may be: 1 to 1000.
     pub fn clear(&mut self, limit: u16)
         requires { (1 ≤ limit) × (limit ≤ 1000) }
-        ensures { self.new ≡ record { limit = limit; items = []; known = [] } }
+        ensures { self.new ≡ record { limit = limit; items = []; met = [] } }
     {
         self.limit = limit;
         self.next = 0;
         self.items.clear();
-        self.known.clear();
+        self.met.clear();
     }
 
     /// Offers a number at a distance, unvisited.
@@ -154,26 +157,33 @@ impl Pool {
         ensures limit { self.new.limit ≡ self.old.limit }
         ensures items { self.new.items ≡ pooled self.old.limit (fresh distance number) self.old.items }
 
-        // What is known was offered: before, or now.
-        ensures known { (z : ℕ) → has self.new.known z ≡ true → (has self.old.known z ≡ true) ⊎ (z ≡ number) }
+        // What is met was offered: before, or now.
+        ensures met { (z : ℕ) → has self.new.met z ≡ true → (has self.old.met z ≡ true) ⊎ (z ≡ number) }
     {
         let item = Item {
             distance,
             number,
             visited: false,
         };
-        self.known.note(number);
+        self.met.note(number);
         let place = offer_to(&mut self.items, usize::from(self.limit), item);
         self.next = self.next.min(place);
     }
 
-    /// Whether this number is known to have been offered since the pool was cleared; a number may be forgotten.
+    /// Whether this number is known to have been offered since the pool was cleared; it may have been forgotten.
     ///
     /// To offer such a number again at its distance would change nothing, so a walk spares its distance.
-    pub fn knows(&self, number: u32) -> bool
-        ensures { result ≡ true → has self.now.known number ≡ true }
+    pub fn has_met(&self, number: u32) -> bool
+        ensures { result ≡ true → has self.now.met number ≡ true }
     {
-        self.known.has(number)
+        self.met.has(number)
+    }
+
+    /// Keeps a byte that was read ahead of its use, so that the read is done. To contracts nothing changes.
+    pub fn keep_warm(&mut self, byte: u8)
+        ensures { self.new ≡ self.old }
+    {
+        self.warmth ^= byte;
     }
 
     /// Marks the least unvisited item and gives it as it was before; `None` exactly where every item is marked.
@@ -182,7 +192,7 @@ impl Pool {
         ensures inside { IfSome result (λ x. Contains self.old.items x) }
         ensures limit { self.new.limit ≡ self.old.limit }
         ensures marked { self.new.items ≡ marked self.old.items }
-        ensures known { self.new.known ≡ self.old.known }
+        ensures met { self.new.met ≡ self.old.met }
     {
         self.next = first_from(&self.items, self.next);
         mark_at(&mut self.items, self.next)

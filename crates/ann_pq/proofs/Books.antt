@@ -5,7 +5,7 @@ use Rattle.std.proofs.lemmas.List.{ext_get_or, get_or-take, get_or-drop, get_or-
 use Rattle.std.proofs.lemmas.List.Elements.{All-from_get_or}
 use Rattle.std.proofs.lemmas.List.FromFn.{get_or-map-range_with_len, length-map-range_with_len}
 use Rattle.ann_types.specs.Distance.{distance}
-use Rattle.ann_pq.specs.Codebook.{AreSizes, IsBook, Shown, part_of}
+use Rattle.ann_pq.specs.Codebook.{AreSizes, IsBook, CodebookView, part_of}
 use Rattle.ann_pq.specs.Format.{fault, IsCodebook, centroid_in, centroids_in, book_in, codebook}
 use Rattle.ann_pq.specs.Turned.{IsTurned, column}
 use Rattle.ann_pq.proofs.Places.{whole, part_ends, centroid_ends, source_at}
@@ -71,13 +71,13 @@ module _ (d m : ℕ) (bytes : List ℕ) (sizes : AreSizes d m) (long : length by
   length_part_at = length_part
 
 -- the bytes of a centroid
-pub centroid_is : (d m : ℕ) (bytes : List ℕ) (v : Shown) → codebook d m bytes ≡ v → AreSizes d m → length bytes ≡ 12 + 256 * d → (p c w s : ℕ) → w ≡ v.d / v.m → p < v.m → c < 256 → s ≡ 12 + (256 * p + c) * w → take (s + w - s) (drop s bytes) ≡ get_or (get_or v.book p []) c []
+pub centroid_is : (d m : ℕ) (bytes : List ℕ) (v : CodebookView) → codebook d m bytes ≡ v → AreSizes d m → length bytes ≡ 12 + 256 * d → (p c w s : ℕ) → w ≡ v.d / v.m → p < v.m → c < 256 → s ≡ 12 + (256 * p + c) * w → take (s + w - s) (drop s bytes) ≡ get_or (get_or v.book p []) c []
 centroid_is d m bytes v is sizes long p c w s wide l below at =
-    let count : m ≡ v.m = ap (λ (v : Shown). v.m) is in
+    let count : m ≡ v.m = ap (λ (v : CodebookView). v.m) is in
     let width : s + w - s ≡ w = omega arith in
-    let same : w ≡ d / m = wide ∙ ap (λ (v : Shown). v.d / v.m) (sym is) in
+    let same : w ≡ d / m = wide ∙ ap (λ (v : CodebookView). v.d / v.m) (sym is) in
     ap (λ n. take n (drop s bytes)) width ∙ ap (λ n. take w (drop n bytes)) at ∙ ap (λ n. take n (drop (12 + (256 * p + c) * n) bytes)) same
-    ∙ sym (book_centroid_at d m bytes sizes long p c (omega arith) below) ∙ ap (λ (v : Shown). get_or (get_or v.book p []) c []) is
+    ∙ sym (book_centroid_at d m bytes sizes long p c (omega arith) below) ∙ ap (λ (v : CodebookView). get_or (get_or v.book p []) c []) is
 
 -- the distances of a part to centroids that columns give
 pub distances_are : (out part turned : List ℕ) (centroids : List (List ℕ)) → length out ≡ 256 → length centroids ≡ 256 → ((n : ℕ) → n < 256 → get_or out n 0 ≡ distance part (column turned n (length part))) → ((n : ℕ) → n < 256 → column turned n (length part) ≡ get_or centroids n []) → out ≡ map (distance part) centroids
@@ -86,9 +86,9 @@ distances_are out part turned centroids long count value same =
     (λ n l. value n (omega arith) ∙ ap (distance part) (same n (omega arith)) ∙ sym (get_or-map (distance part) centroids n [] 0 (omega arith)))
 
 -- the distances of a part to its centroids, from the turned bytes of that part
-pub part_distances : (d m : ℕ) (bytes turned : List ℕ) (v : Shown) → codebook d m bytes ≡ v → AreSizes d m → length bytes ≡ 12 + 256 * d → IsTurned (d / m) d bytes turned → (vector out : List ℕ) (p w : ℕ) → w ≡ v.d / v.m → p < v.m → length vector ≡ v.d → length out ≡ 256 → ((n : ℕ) → n < 256 → get_or out n 0 ≡ distance (take (p * w + w - p * w) (drop (p * w) vector)) (column (take (256 * (p * w) + 256 * w - 256 * (p * w)) (drop (256 * (p * w)) turned)) n (length (take (p * w + w - p * w) (drop (p * w) vector))))) → out ≡ map (distance (part_of (v.d / v.m) vector p)) (get_or v.book p [])
+pub part_distances : (d m : ℕ) (bytes turned : List ℕ) (v : CodebookView) → codebook d m bytes ≡ v → AreSizes d m → length bytes ≡ 12 + 256 * d → IsTurned (d / m) d bytes turned → (vector out : List ℕ) (p w : ℕ) → w ≡ v.d / v.m → p < v.m → length vector ≡ v.d → length out ≡ 256 → ((n : ℕ) → n < 256 → get_or out n 0 ≡ distance (take (p * w + w - p * w) (drop (p * w) vector)) (column (take (256 * (p * w) + 256 * w - 256 * (p * w)) (drop (256 * (p * w)) turned)) n (length (take (p * w + w - p * w) (drop (p * w) vector))))) → out ≡ map (distance (part_of (v.d / v.m) vector p)) (get_or v.book p [])
 part_distances d m bytes turned v is sizes long turns vector out p w =
-    subst (λ (v : Shown). w ≡ v.d / v.m → p < v.m → length vector ≡ v.d → length out ≡ 256 → ((n : ℕ) → n < 256 → get_or out n 0 ≡ distance (take (p * w + w - p * w) (drop (p * w) vector)) (column (take (256 * (p * w) + 256 * w - 256 * (p * w)) (drop (256 * (p * w)) turned)) n (length (take (p * w + w - p * w) (drop (p * w) vector))))) → out ≡ map (distance (part_of (v.d / v.m) vector p)) (get_or v.book p [])) is
+    subst (λ (v : CodebookView). w ≡ v.d / v.m → p < v.m → length vector ≡ v.d → length out ≡ 256 → ((n : ℕ) → n < 256 → get_or out n 0 ≡ distance (take (p * w + w - p * w) (drop (p * w) vector)) (column (take (256 * (p * w) + 256 * w - 256 * (p * w)) (drop (256 * (p * w)) turned)) n (length (take (p * w + w - p * w) (drop (p * w) vector))))) → out ≡ map (distance (part_of (v.d / v.m) vector p)) (get_or v.book p [])) is
     (λ wide l fits size value. of_bytes wide l fits size value)
   where
     of_bytes : w ≡ d / m → p < m → length vector ≡ d → length out ≡ 256 → ((n : ℕ) → n < 256 → get_or out n 0 ≡ distance (take (p * w + w - p * w) (drop (p * w) vector)) (column (take (256 * (p * w) + 256 * w - 256 * (p * w)) (drop (256 * (p * w)) turned)) n (length (take (p * w + w - p * w) (drop (p * w) vector))))) → out ≡ map (distance (part_of (d / m) vector p)) (get_or (book_in m (d / m) bytes) p [])

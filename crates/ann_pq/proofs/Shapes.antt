@@ -6,11 +6,11 @@ use Rattle.ann_types.specs.Codes.{Book, decode}
 use Rattle.ann_types.specs.Index.{IsBookOf}
 use Rattle.ann_types.specs.declared.params.Params.{Params}
 use Rattle.ann_types.proofs.Coded.{HasWidth, IsCode, length_decode}
-use Rattle.ann_pq.specs.Codebook.{IsBook, Shown}
+use Rattle.ann_pq.specs.Codebook.{IsBook, CodebookView}
 use Rattle.ann_pq.specs.Format.{IsCodebook}
 
 -- a codebook that was read for these parameters belongs to them
-pub is_book_of : (params : Params) (shown : Shown) → IsCodebook shown → shown.d ≡ params.d → shown.m ≡ params.m → IsBookOf params shown.book
+pub is_book_of : (params : Params) (shown : CodebookView) → IsCodebook shown → shown.d ≡ params.d → shown.m ≡ params.m → IsBookOf params shown.book
 is_book_of params shown known d m = record {
   parts = known.book.count ∙ m;
   centroids = known.book.centroids;

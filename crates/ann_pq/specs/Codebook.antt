@@ -15,11 +15,15 @@ pub record IsBook (parts width : ℕ) (book : Book) : Type 0 where
   pub widths : All (λ part. All (λ centroid. length centroid ≡ width) part) book
 
 -- the components and the parts of its vectors, its bytes, and the centroids that they are
-pub record Shown : Type 0 where
+pub record CodebookView : Type 0 where
   pub d : ℕ
   pub m : ℕ
   pub bytes : List ℕ
   pub book : Book
+
+-- the same by its earlier name
+abbrev pub Shown : Type 0
+Shown = CodebookView
 
 -- a part of a vector
 abbrev pub part_of : ℕ → List ℕ → ℕ → List ℕ

@@ -4,7 +4,7 @@ use Rattle.std.specs.Prelude.{◌≡◌, ℕ, ◌+◌, ◌*◌, ◌/◌, ◌==�
 use Rattle.std.specs.List.{range_with_len, starts_with}
 use Rattle.ann_types.specs.Codes.{Book}
 use Rattle.ann_bytes.specs.LittleEndian.{number_of, field}
-use Rattle.ann_pq.specs.Codebook.{AreSizes, IsBook, Shown}
+use Rattle.ann_pq.specs.Codebook.{AreSizes, IsBook, CodebookView}
 use Rattle.ann_pq.specs.declared.refused.CodebookRefused.{CodebookRefused}
 use Rattle.ann_pq.specs.declared.refused.CodebookRefused.TheVariants.{Length, Magic, Shape, Memory}
 
@@ -42,11 +42,11 @@ abbrev pub book_in : ℕ → ℕ → List ℕ → Book
 book_in parts width bytes = map (centroids_in width bytes) (range_with_len 0 parts)
 
 -- the codebook that these bytes are
-abbrev pub codebook : ℕ → ℕ → List ℕ → Shown
+abbrev pub codebook : ℕ → ℕ → List ℕ → CodebookView
 codebook d m bytes = record { d = d; m = m; bytes = bytes; book = book_in m (d / m) bytes }
 
 -- what is true of every codebook: it is the one that its bytes are, which have no fault
-pub record IsCodebook (shown : Shown) : Type 0 where
+pub record IsCodebook (shown : CodebookView) : Type 0 where
   pub sizes : AreSizes shown.d shown.m
   pub sound : fault shown.d shown.m shown.bytes ≡ None
   pub size : length shown.bytes ≡ 12 + 256 * shown.d

@@ -26,11 +26,11 @@ pub struct Codebook {
 
 impl Model for Codebook {
     ghost use Rattle.std.specs.Prelude.{◌≡◌, ◌+◌, ◌*◌, ◌/◌, length, None};
-    ghost use Rattle.ann_pq.specs.Codebook.{Shown, AreSizes};
+    ghost use Rattle.ann_pq.specs.Codebook.{CodebookView, AreSizes};
     ghost use Rattle.ann_pq.specs.Format.{codebook, fault};
     ghost use Rattle.ann_pq.specs.Turned.{IsTurned};
 
-    ghost Value = { Shown };
+    ghost Value = { CodebookView };
 
     ghost view = { λ c. codebook c.d c.m c.bytes.items };
 

@@ -7,6 +7,7 @@ ghost use Rattle.ann_lanes.specs.Lanes.{Each1, chunk, square};
 ghost use Rattle.ann_pq.specs.Turned.{source, IsTurned, column, IsBlock};
 
 use crate::check::HEAD;
+use ann_lanes::squares_of;
 use std::alloc::{AllocError, Global};
 use std::simd::prelude::*;
 
@@ -51,19 +52,6 @@ fn differences_at(component: u8, turned: &[u8], at: usize) -> u8x16
     ensures lanes { length result ≡ 16 }
 {
     u8x16::splat(component).abs_diff(u8x16::from_slice(&turned[at..]))
-}
-
-/// The square of each lane.
-#[inline(always)]
-fn squares_of(differences: u8x16) -> u32x16
-    requires small { Each1 (λ difference. difference ≤ 255) differences }
-    requires lanes { length differences ≡ 16 }
-    ensures value { result ≡ map square differences }
-    ensures small { Each1 (λ square. square ≤ 65025) result }
-    ensures lanes { length result ≡ 16 }
-{
-    let wide = differences.cast::<u32>();
-    wide.strict_mul(wide)
 }
 
 /// The distances of a part of a vector to sixteen centroids from `at` on.

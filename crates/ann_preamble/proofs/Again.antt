@@ -1,5 +1,5 @@
 -- A preamble that was written is read again.
-use Rattle.std.proofs.Common.{◌≡◌, ◌≢◌, ℕ, ◌+◌, ◌*◌, ◌^◌, ◌%◌, ◌≤◌, ◌<◌, Bool, true, false, not, ◌==◌, ◌&&◌, nat_lt, nat_eq, List, [], ◌∷◌, ◌++◌, Option, Some, None, length, take, drop, refl, ap, ap₂, ◌∙◌, arith, append_assoc, length-append, if◌then◌else◌}
+use Rattle.std.proofs.Common.{◌≡◌, ℕ, ◌+◌, ◌*◌, ◌^◌, ◌%◌, ◌≤◌, ◌<◌, Bool, true, false, not, ◌==◌, ◌&&◌, nat_lt, nat_eq, List, [], ◌∷◌, ◌++◌, Option, Some, None, length, take, drop, refl, ap, ap₂, ◌∙◌, arith, append_assoc, length-append, if◌then◌else◌}
 use Rattle.std.specs.List.{concat, starts_with}
 use Rattle.std.specs.Option.{is_none}
 use Rattle.std.proofs.lemmas.Bool.{le-leb, lt-ltb}
@@ -7,6 +7,9 @@ use Rattle.std.proofs.lemmas.Bool.Decides.{Decides-eqb}
 use Rattle.std.proofs.lemmas.List.{take_at}
 use Rattle.ann_types.specs.declared.params.Params.{Params}
 use Rattle.ann_bytes.specs.LittleEndian.{number_of, bytes_of, field}
+pub use Rattle.ann_types.proofs.Booleans.{not_same}
+use Rattle.ann_types.proofs.Booleans.{same_true}
+use Rattle.ann_bytes.proofs.Joined.{laid, laid_is}
 use Rattle.ann_bytes.proofs.Numbers.{number_of-bytes_of}
 use Rattle.ann_pq.specs.Format.{fault, magic, codebook}
 use Rattle.ann_pq.specs.declared.refused.CodebookRefused.TheVariants.{Length, Magic, Shape}
@@ -15,13 +18,6 @@ use Rattle.ann_preamble.specs.Preamble.{magic_two, magic_one, fields_with, field
 use Rattle.ann_preamble.specs.Written.{params_fields, base_fields, preamble_bytes, said_with, IsReadAgain}
 use Rattle.ann_preamble.specs.declared.base.Base.{Base}
 use Rattle.ann_preamble.specs.declared.fields.Fields.{Fields}
-use Rattle.ann_preamble.proofs.Joined.{laid, laid_is}
-
-same_true : (x y : ℕ) → x ≡ y → (x == y) ≡ true
-same_true x y is = (Decides-eqb x y).1 is
-
-pub not_same : (x y : ℕ) → x ≢ y → (x == y) ≡ false
-not_same x y differ = elim (x == y) as (λ t. (x == y) ≡ t → t ≡ false) [ true ↦ λ is. absurd (differ ((Decides-eqb x y).0 is)) | false ↦ λ is. refl ] refl
 
 -- ---- a codebook's bytes
 

@@ -6,6 +6,8 @@ use Rattle.std.proofs.lemmas.Bool.{le-leb, lt-ltb, ltb-true}
 use Rattle.std.proofs.lemmas.Bool.Decides.{Decides-eqb}
 use Rattle.std.proofs.lemmas.List.{drop-take, take-take}
 use Rattle.std.proofs.lemmas.Slice.Eq.{bytes_eq-Decides}
+pub use Rattle.ann_types.proofs.Booleans.{both}
+use Rattle.ann_types.proofs.Booleans.{and_false}
 use Rattle.ann_bytes.specs.LittleEndian.{number_of, field}
 use Rattle.ann_pq.specs.Format.{fault, codebook}
 use Rattle.ann_preamble.specs.Base.{is_base}
@@ -13,15 +15,6 @@ use Rattle.ann_preamble.specs.Preamble.{magic_one, magic_two, fields_with, field
 use Rattle.ann_preamble.specs.Reading.{IsSoundIn, IsSaidBefore, HasFronts}
 use Rattle.ann_preamble.specs.declared.base.Base.{Base}
 use Rattle.ann_preamble.specs.declared.fields.Fields.{Fields}
-
-pub both : (x y : Bool) → (x && y) ≡ true → (x ≡ true) × (y ≡ true)
-both true true is = (refl, refl)
-both true false is = (refl, is)
-both false y is = (is, cc)
-
-and_false : (x : Bool) → (x && false) ≡ false
-and_false true = refl
-and_false false = refl
 
 no_fault : {A : Type 0} (o : Option A) → is_none o ≡ true → o ≡ None
 no_fault None is = refl

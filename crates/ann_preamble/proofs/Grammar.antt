@@ -14,9 +14,10 @@ use Rattle.ann_preamble.specs.Reading.{IsWrittenIn}
 use Rattle.ann_preamble.specs.declared.base.Base.{Base}
 use Rattle.ann_preamble.specs.declared.fields.Fields.{Fields}
 use Rattle.ann_preamble.specs.declared.preamble.Preamble.{Preamble}
-use Rattle.ann_preamble.proofs.Again.{not_same}
-use Rattle.ann_preamble.proofs.Agreed.{both, sound_in}
-use Rattle.ann_preamble.proofs.Cut.{IsBytes, cut, concat-cut, field_is, one_byte}
+use Rattle.ann_types.proofs.Booleans.{both, not_same}
+use Rattle.ann_preamble.proofs.Agreed.{sound_in}
+use Rattle.ann_bytes.proofs.Joined.{cut, concat-cut}
+use Rattle.ann_bytes.proofs.Numbered.{IsBytes, field_is, one_byte}
 
 -- ---- bytes with these fields
 

@@ -8,7 +8,8 @@ use Rattle.ann_preamble.specs.Preamble.{Said, are_limits, are_sound, is_whole, s
 use Rattle.ann_preamble.specs.declared.preamble.Preamble.{Preamble}
 use Rattle.ann_preamble.specs.Base.{is_base}
 use Rattle.ann_preamble.specs.declared.fields.Fields.{Fields}
-use Rattle.ann_preamble.proofs.Agreed.{both, fronts, sound_in, said_before}
+use Rattle.ann_types.proofs.Booleans.{both}
+use Rattle.ann_preamble.proofs.Agreed.{fronts, sound_in, said_before}
 
 few_components : (f : Fields) → are_limits f ≡ true → f.d ≤ 1024
 few_components f is =

@@ -8,7 +8,7 @@ use Rattle.std.specs.Option.{is_none}
 use Rattle.std.specs.Str.{bytes_eq}
 use Rattle.ann_types.specs.declared.params.Params.{Params}
 use Rattle.ann_bytes.specs.LittleEndian.{number_of, field}
-use Rattle.ann_pq.specs.Codebook.{Shown}
+use Rattle.ann_pq.specs.Codebook.{CodebookView}
 use Rattle.ann_pq.specs.Format.{fault, codebook}
 use Rattle.ann_preamble.specs.Base.{is_base}
 use Rattle.ann_preamble.specs.declared.base.Base.{Base}
@@ -95,7 +95,7 @@ fields_in bytes =
 -- what a preamble says
 pub record Said : Type 0 where
   pub fields : Fields
-  pub book : Shown
+  pub book : CodebookView
 
 abbrev pub book_bytes : Fields → List ℕ → List ℕ
 book_bytes f bytes = field bytes (book_place f.generation) (book_size f.d)

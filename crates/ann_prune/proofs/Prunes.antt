@@ -5,17 +5,17 @@ use Rattle.std.specs.List.{IsDistinct}
 use Rattle.std.specs.Cmp.{nat_eq_equiv}
 use Rattle.std.proofs.lemmas.Map.Keys.{IsDistinct-IsPermutation, IsDistinct-push}
 use Rattle.std.specs.List.Sorted.{IsPermutation, IsNonDecreasingBy}
-use Rattle.std.proofs.lemmas.List.Elements.{All-head, All-tail, All-same, All-push}
+use Rattle.std.proofs.lemmas.List.Elements.{filter-append, All-cons, All-head, All-tail, All-same, All-push}
 use Rattle.std.proofs.Math.Seq.{take-suc-set, take-suc}
 use Rattle.std.proofs.lemmas.List.{drop_more, length_push}
 use Rattle.std.proofs.lemmas.List.Sorted.{IsNonDecreasingBy-drop, IsPermutation-map, list_any-IsPermutation}
-use Rattle.std.proofs.lemmas.Bool.{false≢true, or_cases, or_right, or_left, eqb-false, cond-false, false_from_ne_true, cases_eq, ne_eqb}
+use Rattle.std.proofs.lemmas.Bool.{false≢true, or_cases, or_right, or_left, eqb-false, cond-false, leb-false, false_from_ne_true, cases_eq, ne_eqb}
 use Rattle.ann_types.specs.Order.{before, in_order, has, ascending}
 use Rattle.ann_types.specs.Kept.{Rule, covered, takes, keep}
-use Rattle.ann_types.proofs.Ordered.{IsAfter, IsRising, before_from, has_here, has_later, has_cases, rising_in_order, has_in_order, before-trans, has_append, not_in_rest, rising_unique}
+use Rattle.ann_types.proofs.Ordered.{IsAfter, IsRising, before_from, has_here, has_later, has_cases, rising_in_order, has_in_order, before-trans, before-irreflexive, has_append, not_in_rest, rising_unique}
 use Rattle.ann_prune.specs.declared.candidates.Candidate.{Candidate}
 use Rattle.ann_prune.specs.Rows.{row_of, key_of, IsMeasured}
-use Rattle.ann_prune.specs.Newer.{AreSettled, AreSpared}
+use Rattle.ann_prune.specs.Newer.{AreSettled, IsNew, leaves_out, fresh_of, with_tried}
 
 -- a candidate with the same row changes no row
 pub rows-set : (s : List Candidate) (i : ℕ) (d a : Candidate) → i < length s → a.row ≡ (get_or s i d).row → map row_of (set s i a) ≡ map row_of s
@@ -191,15 +191,69 @@ has_from_take zero k xs h = absurd (false≢true h)
 has_from_take (suc i) k [] h = absurd (false≢true h)
 has_from_take (suc i) k (x ∷ xs) h = elim (has_cases x k (take i xs) h) [ inl e ↦ has_here x k xs e | inr m ↦ has_later x k xs (has_from_take i k xs m) ]
 
--- none of the rows that were kept so far leaves out the next one, where both are known
-pub spared_here : (rule : Rule) (apart : ℕ → ℕ → ℕ) (p newer : ℕ) (rows kept : List ℕ) (i d : ℕ) → AreSorted (apart p) rows → AreSettled rule apart p newer rows → i < length rows → ((k : ℕ) → has kept k ≡ true → has (take i rows) k ≡ true) → AreSpared rule apart p newer kept (get_or rows i d)
-spared_here rule apart p newer rows kept i d s w within past = λ j d' l older older' other.
-    let k : ℕ = get_or kept j d' in
-    let there = past k (has_at kept j d' l) in
-    elim (sorted_at (apart p) rows i k d s within there) [
-      | inl b ↦ w.settled k (get_or rows i d) (has_from_take i k rows there) (has_at rows i d within) older older' b
-      | inr e ↦ absurd (other e)
+-- the rows so far stand before the next one, where the last of them does
+before_next : (far : ℕ → ℕ) (xs : List ℕ) (i k : ℕ) → AreSorted far xs → i < length xs → ((j : ℕ) → suc j ≡ i → get_or xs j 0 ≡ get_or xs i 0 → ⊥) → has (take i xs) k ≡ true → before far k (get_or xs i 0) ≡ true
+before_next far [] i k s within differ h = absurd (omega arith)
+before_next far (x ∷ xs) zero k s within differ h = absurd (false≢true h)
+before_next far (x ∷ []) (suc zero) k s within differ h = absurd (omega arith)
+before_next far (x ∷ y ∷ ys) (suc zero) k s within differ h =
+    let first : before far x y ≡ true = elim s.0 [ inl b ↦ b | inr e ↦ absurd (differ 0 refl e) ] in
+    elim (has_cases x k [] h) [ inl e ↦ subst (λ (t : ℕ). before far t y ≡ true) (sym (eqb-true k x e)) first | inr m ↦ absurd (false≢true m) ]
+before_next far (x ∷ []) (suc (suc i)) k s within differ h = absurd (omega arith)
+before_next far (x ∷ y ∷ ys) (suc (suc i)) k s within differ h =
+    let rest : (z : ℕ) → has (take (suc i) (y ∷ ys)) z ≡ true → before far z (get_or (y ∷ ys) (suc i) 0) ≡ true = (λ z m. before_next far (y ∷ ys) (suc i) z s.1 (omega arith) (λ j e. differ (suc j) (ap suc e)) m) in
+    let second : before far y (get_or (y ∷ ys) (suc i) 0) ≡ true = rest y (has_here y y (take i ys) (eq-eqb y y refl)) in
+    elim (has_cases x k (take (suc i) (y ∷ ys)) h) [
+      | inl e ↦ subst (λ (t : ℕ). before far t (get_or (y ∷ ys) (suc i) 0) ≡ true) (sym (eqb-true k x e)) (elim s.0 [
+        | inl b ↦ before-trans far x y (get_or (y ∷ ys) (suc i) 0) b second
+        | inr same ↦ subst (λ (t : ℕ). before far t (get_or (y ∷ ys) (suc i) 0) ≡ true) (sym same) second
+      ])
+      | inr m ↦ rest k m
     ]
+
+-- the next row, which isn't the one before it again, is none of those that were kept, and known ones don't leave it out
+pub new_here : (rule : Rule) (apart : ℕ → ℕ → ℕ) (p newer : ℕ) (rows kept : List ℕ) (i : ℕ) → AreSorted (apart p) rows → AreSettled rule apart p newer rows → i < length rows → ((k : ℕ) → has kept k ≡ true → has (take i rows) k ≡ true) → ((j : ℕ) → suc j ≡ i → get_or rows j 0 ≡ get_or rows i 0 → ⊥) → IsNew rule apart p newer kept (get_or rows i 0)
+new_here rule apart p newer rows kept i s w within past differ =
+    let c : ℕ = get_or rows i 0 in
+    let stand : (k : ℕ) → has kept k ≡ true → before (apart p) k c ≡ true = (λ k h. before_next (apart p) rows i k s within differ (past k h)) in
+    record {
+      other = false_from_ne_true (has kept c) (λ h. absurd (false≢true (sym (before-irreflexive (apart p) c) ∙ stand c h)));
+      spared = λ older. λ j d l older'. let k : ℕ = get_or kept j d in let there = has_at kept j d l in w.settled k c (has_from_take i k rows (past k there)) (has_at rows i 0 within) older' older (stand k there);
+    }
+
+-- against candidates below a row the fresh ones decide alone
+pub covered_fresh : (rule : Rule) (apart : ℕ → ℕ → ℕ) (p newer c : ℕ) (kept : List ℕ) → All (λ k. k < newer → leaves_out rule apart p k c ≡ false) kept → covered rule apart p (fresh_of newer kept) c ≡ covered rule apart p kept c
+covered_fresh rule apart p newer c [] a = refl
+covered_fresh rule apart p newer c (k ∷ kept) a =
+    let rest = covered_fresh rule apart p newer c kept (All-tail (λ k. k < newer → leaves_out rule apart p k c ≡ false) k kept a) in
+    elim (nat_le newer k) as (λ t. nat_le newer k ≡ t → covered rule apart p (cond t (k ∷ fresh_of newer kept) (fresh_of newer kept)) c ≡ (leaves_out rule apart p k c || covered rule apart p kept c)) [
+      | true ↦ λ e. ap (λ t. leaves_out rule apart p k c || t) rest
+      | false ↦ λ e. rest ∙ ap (λ t. t || covered rule apart p kept c) (sym (All-head (λ k. k < newer → leaves_out rule apart p k c ≡ false) k kept a (leb-false newer k e)))
+    ] refl
+
+pub fresh_few : (newer : ℕ) (kept : List ℕ) → length (fresh_of newer kept) ≤ length kept
+fresh_few newer [] = omega arith
+fresh_few newer (k ∷ kept) =
+    let rest = fresh_few newer kept in
+    elim (nat_le newer k) as (λ t. length (cond t (k ∷ fresh_of newer kept) (fresh_of newer kept)) ≤ suc (length kept)) [ true ↦ omega arith | false ↦ omega arith ]
+
+pub fresh_inside : (P : ℕ → Type 0) (newer : ℕ) (kept : List ℕ) → All P kept → All P (fresh_of newer kept)
+fresh_inside P newer [] a = a
+fresh_inside P newer (k ∷ kept) a =
+    let rest = fresh_inside P newer kept (All-tail P k kept a) in
+    elim (nat_le newer k) as (λ t. All P (cond t (k ∷ fresh_of newer kept) (fresh_of newer kept))) [ true ↦ All-cons P k (fresh_of newer kept) (All-head P k kept a) rest | false ↦ rest ]
+
+-- one kept row more
+pub fresh_push : (newer c : ℕ) (kept : List ℕ) → fresh_of newer (kept ++ c ∷ []) ≡ fresh_of newer kept ++ cond (nat_le newer c) (c ∷ []) []
+fresh_push newer c kept = filter-append (λ k. nat_le newer k) kept (c ∷ [])
+
+-- a row that stands a second time changes nothing
+pub tried_again : (rule : Rule) (apart : ℕ → ℕ → ℕ) (p : ℕ) (rows kept : List ℕ) (i : ℕ) → i < length rows → takes rule apart p kept (get_or rows i 0) ≡ false → keep rule apart p kept (drop (i + 1) rows) ≡ keep rule apart p kept (drop i rows)
+tried_again rule apart p rows kept i within untaken =
+    sym (ap (keep rule apart p kept) (drop_more rows i 0 within) ∙ ap (λ (t : Bool). keep rule apart p (cond t (kept ++ get_or rows i 0 ∷ []) kept) (drop (i + 1) rows)) untaken)
+
+pub never_twice : (rule : Rule) (apart : ℕ → ℕ → ℕ) (p : ℕ) (kept : List ℕ) (c : ℕ) → apart c c ≡ 0 → takes rule apart p (with_tried rule apart p kept c) c ≡ false
+never_twice rule apart p kept c e = twice_taken rule apart p kept c e
 
 pub row_at : (items : List Candidate) (i : ℕ) (d : Candidate) → i < length items → get_or (map row_of items) i (row_of d) ≡ row_of (get_or items i d)
 row_at [] i d within = absurd (omega arith)

@@ -16,6 +16,8 @@ pub(crate) struct Candidate {
 #[derive(Drop)]
 pub struct Candidates {
     pub(crate) items: Vec<Candidate>,
+    /// What `keep_warm` was given, which is kept only so that the reading isn't left out.
+    warmth: u8,
 }
 
 impl Model for Candidates {
@@ -36,6 +38,7 @@ impl Candidates {
     {
         Ok(Candidates {
             items: Vec::new(alloc),
+            warmth: 0,
         })
     }
 
@@ -57,6 +60,13 @@ impl Candidates {
     {
         self.items.push(Candidate { distance: 0, row })?;
         Ok(())
+    }
+
+    /// Keeps a byte that was read ahead of its use, so that the read is done. To contracts nothing changes.
+    pub fn keep_warm(&mut self, byte: u8)
+        ensures { self.new ≡ self.old }
+    {
+        self.warmth ^= byte;
     }
 
     /// Takes all rows out.

@@ -19,4 +19,7 @@ pub trait Metric {
 
     // A row has no distance to itself.
     ghost near_itself: { (metric : Self) (x : ℕ) → apart metric x x ≡ 0 };
+
+    // Two rows are as far apart from either side.
+    ghost symmetric: { (metric : Self) (x y : ℕ) → apart metric x y ≡ apart metric y x };
 }

@@ -1,10 +1,10 @@
-ghost use Rattle.std.specs.Prelude.{◌≡◌, ◌≤◌, ◌<◌, ◌+◌, ◌^◌, ◌++◌, ◌∷◌, ℕ, [], length, map, All, eqb, if◌then◌else◌};
+ghost use Rattle.std.specs.Prelude.{◌≡◌, ◌≤◌, ◌<◌, ◌+◌, ◌++◌, ◌∷◌, ◌^◌, ℕ, [], true, false, length, map, All, eqb};
 ghost use Rattle.std.specs.List.{IsDistinct};
-ghost use Rattle.ann_types.specs.Order.{has, in_order, ascending};
-ghost use Rattle.ann_types.specs.Kept.{rule_of, covered, takes, keep, kept};
+ghost use Rattle.ann_types.specs.Order.{in_order, ascending};
+ghost use Rattle.ann_types.specs.Kept.{rule_of, covered, keep, kept};
 ghost use Rattle.std.specs.List.Sorted.{IsPermutation, IsNonDecreasingBy};
-ghost use Rattle.ann_prune.specs.Rows.{row_of, key_of, IsMeasured};
-ghost use Rattle.ann_prune.specs.Newer.{AreSettled, AreSpared};
+ghost use Rattle.ann_prune.specs.Rows.{row_of, key_of, IsMeasured, IsCandidate, AreCandidates};
+ghost use Rattle.ann_prune.specs.Newer.{AreSettled, AreKept, IsNew, IsNext, IsRepeated, fresh_of, with_tried};
 
 use crate::candidates::{Candidate, Candidates};
 use crate::metric::Metric;
@@ -34,56 +34,98 @@ fn sort(items: &mut [Candidate])
     });
 }
 
-/// Whether a kept row leaves a candidate out.
-///
-/// Of two rows below `newer` it is known that neither leaves out the other, so their distance isn't computed.
+/// Whether one of these kept rows leaves a candidate out.
 fn is_covered<M: Metric>(
     metric: &M,
     params: &Params,
     kept: &[u32],
-    newer: u32,
     p: u32,
     candidate: &Candidate,
 ) -> bool
-    requires p { p < M.size metric.now }
-    requires row { candidate.now.row < M.size metric.now }
-    requires far { IsMeasured (M.apart metric.now p) candidate.now }
+    requires candidate { IsCandidate (M.size metric.now) (M.apart metric.now p) candidate.now }
     requires kept { All (λ k. k < M.size metric.now) kept.now }
-    requires spared { AreSpared (rule_of params.now) (M.apart metric.now) p newer kept.now candidate.now.row }
     ensures { result ≡ covered (rule_of params.now) (M.apart metric.now) p kept.now candidate.now.row }
 {
     let a = u64::from(params.a);
     let b = u64::from(params.b);
     let bound = b * b * u64::from(candidate.distance);
     for k in kept {
-        let settled = *k < newer && candidate.row < newer && *k != candidate.row;
-        if !settled && a * a * u64::from(metric.distance(*k, candidate.row)) <= bound {
+        if a * a * u64::from(metric.distance(*k, candidate.row)) <= bound {
             return true;
         }
     }
     false
 }
 
-/// Keeps a candidate unless a kept one leaves it out.
+/// Whether a kept row leaves a candidate out.
+///
+/// Of two rows below `newer` it is known that neither leaves out the other, so a candidate there is tried against the
+/// fresh ones alone: the kept rows at or above `newer`.
+fn is_left_out<M: Metric>(
+    metric: &M,
+    params: &Params,
+    kept: &[u32],
+    fresh: &[u32],
+    newer: u32,
+    p: u32,
+    candidate: &Candidate,
+) -> bool
+    requires candidate { IsCandidate (M.size metric.now) (M.apart metric.now p) candidate.now }
+    requires kept { AreKept (M.size metric.now) newer kept.now fresh.now }
+    requires new { IsNew (rule_of params.now) (M.apart metric.now) p newer kept.now candidate.now.row }
+    ensures { result ≡ covered (rule_of params.now) (M.apart metric.now) p kept.now candidate.now.row }
+{
+    if candidate.row < newer {
+        return is_covered(metric, params, fresh, p, candidate);
+    }
+    is_covered(metric, params, kept, p, candidate)
+}
+
+/// Adds a row to those that are kept, and to the fresh ones of them where it isn't below `newer`.
+fn keep_row(out: &mut ArrayVec<u32, 128>, fresh: &mut ArrayVec<u32, 128>, newer: u32, row: u32)
+    requires room { length out.old.items < 128 }
+    requires fresh { fresh.old.items ≡ fresh_of newer out.old.items }
+    ensures kept { out.new.items ≡ out.old.items ++ row ∷ [] }
+    ensures fresh { fresh.new.items ≡ fresh_of newer out.new.items }
+{
+    out.push(row);
+    if newer <= row {
+        fresh.push(row);
+    }
+}
+
+/// Keeps a candidate unless it was tried just before, or a kept one leaves it out.
 fn try_keep<M: Metric>(
     metric: &M,
     params: &Params,
     out: &mut ArrayVec<u32, 128>,
+    fresh: &mut ArrayVec<u32, 128>,
     newer: u32,
     p: u32,
     candidate: &Candidate,
+    repeated: bool,
 )
-    requires p { p < M.size metric.now }
-    requires row { candidate.now.row < M.size metric.now }
-    requires far { IsMeasured (M.apart metric.now p) candidate.now }
-    requires kept { All (λ k. k < M.size metric.now) out.old.items }
+    requires candidate { IsCandidate (M.size metric.now) (M.apart metric.now p) candidate.now }
+    requires kept { AreKept (M.size metric.now) newer out.old.items fresh.old.items }
     requires room { length out.old.items < params.now.r }
-    requires spared { AreSpared (rule_of params.now) (M.apart metric.now) p newer out.old.items candidate.now.row }
-    ensures { out.new.items ≡ (if takes (rule_of params.now) (M.apart metric.now) p out.old.items candidate.now.row then out.old.items ++ candidate.now.row ∷ [] else out.old.items) }
+    requires next { let rule = rule_of params.now in
+        IsNext rule (M.apart metric.now) p newer out.old.items candidate.now.row repeated }
+    ensures kept { let rule = rule_of params.now in
+        out.new.items ≡ with_tried rule (M.apart metric.now) p out.old.items candidate.now.row }
+    ensures fresh { fresh.new.items ≡ fresh_of newer out.new.items }
 {
-    if !is_covered(metric, params, out, newer, p, candidate) {
-        out.push(candidate.row);
+    if !repeated && !is_left_out(metric, params, out, fresh, newer, p, candidate) {
+        keep_row(out, fresh, newer, candidate.row);
     }
+}
+
+/// Whether the candidate before has the same row.
+fn is_repeated(items: &[Candidate], at: usize) -> bool
+    requires { at < length items.now }
+    ensures again { result ≡ true → IsRepeated (map row_of items.now) at }
+    ensures first { result ≡ false → (IsRepeated (map row_of items.now) at → ⊥) }
+{
+    at > 0 && items[at - 1].row == items[at].row
 }
 
 /// Keeps of sorted candidates, in order, each one that no kept one leaves out, up to the degree.
@@ -95,21 +137,23 @@ fn keep_each<M: Metric>(
     newer: u32,
     out: &mut ArrayVec<u32, 128>,
 )
-    requires p { p < M.size metric.now }
-    requires rows { All (λ c. c.row < M.size metric.now) items.now }
     requires small { M.size metric.now < 2 ^ 32 }
-    requires far { All (IsMeasured (M.apart metric.now p)) items.now }
+    requires candidates { AreCandidates (M.size metric.now) (M.apart metric.now p) items.now }
     requires order { IsNonDecreasingBy key_of items.now }
     requires settled { AreSettled (rule_of params.now) (M.apart metric.now) p newer (map row_of items.now) }
     requires empty { out.old.items ≡ [] }
     ensures { out.new.items ≡ keep (rule_of params.now) (M.apart metric.now) p [] (map row_of items.now) }
 {
     let most = usize::from(params.r);
-    for candidate in items {
+    let mut fresh = ArrayVec::new();
+    for at in 0..items.len() {
         if out.len() == most {
             break;
         }
-        try_keep(metric, params, out, newer, p, candidate);
+        let repeated = is_repeated(items, at);
+        try_keep(
+            metric, params, out, &mut fresh, newer, p, &items[at], repeated,
+        );
     }
 }
 
@@ -126,7 +170,8 @@ fn keep_in_order<M: Metric>(
     requires rows { All (λ row. row < M.size metric.now) (map row_of items.old) }
     requires settled { AreSettled (rule_of params.now) (M.apart metric.now) p newer (map row_of items.old) }
     requires empty { out.old.items ≡ [] }
-    ensures { out.new.items ≡ keep (rule_of params.now) (M.apart metric.now) p [] (in_order (M.apart metric.now p) (map row_of items.old)) }
+    ensures { let apart = M.apart metric.now in
+        out.new.items ≡ keep (rule_of params.now) apart p [] (in_order (apart p) (map row_of items.old)) }
 {
     let _small = metric.count();
     measure(metric, p, items);

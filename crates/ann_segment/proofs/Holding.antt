@@ -1,5 +1,6 @@
 -- What stands in the rows of a segment that holds a graph.
 use Rattle.std.proofs.Common.{◌≡◌, ◌≢◌, ℕ, zero, suc, ◌+◌, ◌-◌, ◌*◌, ◌^◌, ◌≤◌, ◌<◌, ◌==◌, true, false, List, [], ◌∷◌, ◌++◌, None, map, length, take, drop, get_or, inl, inr, eqb, eq-eqb, Bool, ◌||◌, refl, sym, ap, ap₂, subst, ◌∙◌, arith, length-append}
+use Rattle.std.specs.Prelude.{All}
 use Rattle.std.specs.List.{flat_map, slice_range, AllByRecursion}
 use Rattle.std.proofs.lemmas.List.{get_or-map, length-map, take_at, drop_at, drop-drop}
 use Rattle.std.proofs.lemmas.Bool.{cases_order, false≢true}
@@ -19,7 +20,7 @@ use Rattle.ann_types.proofs.Graphs.{AreLinked, IsLinked, linked_from_graph}
 use Rattle.ann_block.specs.Block.{zeros}
 use Rattle.ann_block.specs.Node.{IsNodeOf, node_bytes, node_of, judge_node}
 use Rattle.ann_block.proofs.Cleared.{length-zeros}
-use Rattle.ann_block.proofs.Rules.{same_true, not_same}
+use Rattle.ann_types.proofs.Booleans.{same_true, not_same}
 use Rattle.ann_block.proofs.Listed.{length-numbers}
 use Rattle.ann_block.proofs.Nodes.{node_accepted, node_read_back}
 use Rattle.ann_segment.specs.Directory.{Item, item_of, directory_blocks}
@@ -28,7 +29,7 @@ use Rattle.ann_segment.specs.Text.{row_of, header_for, items_for, node_for, fron
 use Rattle.ann_segment.specs.Holds.{Holds}
 use Rattle.ann_segment.proofs.Rows.{front_long}
 
-no_point : Point
+pub no_point : Point
 no_point = record { pid = 0; tag = 0; vector = []; links = [] }
 
 -- ---- rows of Pids
@@ -161,6 +162,20 @@ block_behind front back before row long =
     (let e : 4096 * (before + row) ≡ 4096 * before + 4096 * row = omega arith in e)
     ∙ ap (take 4096) (sym (drop-drop (4096 * row) (4096 * before) (front ++ back)) ∙ ap (drop (4096 * row)) (drop_at front back (4096 * before) long))
 
+-- the blocks of all
+pub blocks_long : {A : Type 0} (f : A → List ℕ) (xs : List A) → AllByRecursion (λ x. length (f x) ≡ 4096) xs → length (flat_map f xs) ≡ 4096 * length xs
+blocks_long f [] a = refl
+blocks_long f (x ∷ xs) (h, a) = let rest = blocks_long f xs a in omega (arith, length-append (f x) (flat_map f xs))
+
+-- codes have the parameters' length
+pub items_coded : (params : Params) (book : Book) (graph : Graph) → length book ≡ params.m → All (λ item. length item.1 ≡ params.m) (items_for book graph)
+items_coded params book graph parts =
+    All-from_recursion (λ item. length item.1 ≡ params.m) (items_for book graph) (all_mapped (λ (x : Point). Unit {0}) (λ (item : Item). length item.1 ≡ params.m) (λ (x : Point). (x.pid, code book x.vector)) graph.points (λ x t. length_code book x.vector ∙ parts) (all_units graph.points))
+  where
+    all_units : (xs : List Point) → AllByRecursion (λ x. Unit {0}) xs
+    all_units [] = tt
+    all_units (x ∷ xs) = (tt, all_units xs)
+
 -- ---- what stands in a row of a segment that holds a graph
 
 -- the point of a row
@@ -202,21 +217,17 @@ module _ {S : Type 0} (params : Params) (book : Book) (bytes : List ℕ) (segmen
   links_at : (row : ℕ) (d : Point) → row < length graph.points → length (map (row_of graph.points) (get_or graph.points row d).links) ≤ 128
   links_at row d below = let few = h.sound.degrees row d below in let size = length-map (get_or graph.points row d).links (row_of graph.points) in let most = params.in_limits.neighbours in omega arith
 
-  all_long : AllByRecursion (λ x. length (node_for graph.points x) ≡ 4096) graph.points
+  pub all_long : AllByRecursion (λ x. length (node_for graph.points x) ≡ 4096) graph.points
   all_long = recursion_from_All (λ x. length (node_for graph.points x) ≡ 4096) graph.points
       (λ row d below. let x : Point = get_or graph.points row d in node_long x.pid x.tag x.vector (map (row_of graph.points) x.links) (vector_at row d below) (links_at row d below))
 
   module _ (parts : length book ≡ params.m) where
-    front_is_long : length (front_bytes (header_for params graph segment.number) (items_for book graph)) ≡ 4096 * (1 + directory_blocks (length segment.items) segment.m)
+    pub front_is_long : length (front_bytes (header_for params graph segment.number) (items_for book graph)) ≡ 4096 * (1 + directory_blocks (length segment.items) segment.m)
     front_is_long =
         front_long (header_for params graph segment.number) (items_for book graph)
         (length-map graph.points (λ (x : Point). (x.pid, code book x.vector)))
-        (All-from_recursion (λ item. length item.1 ≡ params.m) (items_for book graph) (all_mapped (λ (x : Point). Unit {0}) (λ (item : Item). length item.1 ≡ params.m) (λ (x : Point). (x.pid, code book x.vector)) graph.points (λ x t. length_code book x.vector ∙ parts) (all_units graph.points)))
+        (items_coded params book graph parts)
         ∙ ap₂ (λ (n m : ℕ). 4096 * (1 + directory_blocks n m)) (sym holds_count) (sym h.code_bytes)
-      where
-        all_units : (xs : List Point) → AllByRecursion (λ x. Unit {0}) xs
-        all_units [] = tt
-        all_units (x ∷ xs) = (tt, all_units xs)
 
     -- the block of a row is the node block of its point
     pub holds_block : (row : ℕ) → row < length graph.points → slice_range bytes (4096 * node_block segment row) (4096 * node_block segment row + 4096) ≡ node_for graph.points (point_at graph row)

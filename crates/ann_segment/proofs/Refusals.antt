@@ -3,12 +3,8 @@ use Rattle.std.proofs.Common.{◌≢◌, inl, inr, ℕ, ◌+◌, ◌-◌, ◌*�
 use Rattle.std.specs.Prelude.{Any}
 use Rattle.std.proofs.Math.Nat.{mul-le-mul_right}
 use Rattle.ann_segment.proofs.Rows.{row_within}
-use Rattle.ann_segment.specs.Directory.{directory_blocks, pid_at}
+use Rattle.ann_segment.specs.Directory.{directory_blocks, pid_at, RiseBefore}
 use Rattle.ann_segment.specs.Opening.{HasFall, IsRefused, IsDirectory, IsFirstRefused}
-
--- the Pids of the rows before this one rise
-abbrev pub RiseBefore : ℕ → List ℕ → ℕ → Type 0
-RiseBefore m directory end = (row : ℕ) → 1 ≤ row → row < end → pid_at m directory (row - 1) < pid_at m directory row
 
 -- where the Pids before a row rise, none of those rows has a fall
 fall_behind : (m count end block : ℕ) (directory : List ℕ) → RiseBefore m directory end → (fall : HasFall m count directory block) → end ≤ fall.row

@@ -14,7 +14,7 @@ use Rattle.ann_block.specs.declared.header.Header.{Header}
 use Rattle.ann_block.specs.Header.{header_bytes}
 use Rattle.ann_block.specs.Block.{zeros}
 use Rattle.ann_block.proofs.Cleared.{length-zeros}
-use Rattle.ann_pq.specs.Codebook.{Shown}
+use Rattle.ann_pq.specs.Codebook.{CodebookView}
 use Rattle.ann_segment.specs.Segment.{IsNode}
 use Rattle.ann_segment.specs.Opening.{segment_length}
 use Rattle.ann_segment.specs.Text.{header_for, items_for, node_for, front_bytes, segment_text}
@@ -142,7 +142,7 @@ text_is params book graph number header items first second =
 
 -- ---- the blocks before the nodes
 
-header_long : (header : Header) → length (header_bytes header) ≡ 4096
+pub header_long : (header : Header) → length (header_bytes header) ≡ 4096
 unfolding header_bytes
 header_long header = omega (arith, length-append (zeros 4064) [], length-zeros 4064)
 
@@ -168,7 +168,7 @@ front_long header items many codes =
     whole ∙ ap (λ (k : ℕ). 4096 * (1 + blocks_of k)) size
 
 -- a node's block by other names
-pub node_moved : (page : List ℕ) (row : ℕ) (book : Shown) (params : Params) (pid pid' count count' : ℕ) (wanted wanted' : List ℕ) → pid ≡ pid' → count ≡ count' → wanted ≡ wanted' → IsNode page pid row count wanted book params → IsNode page pid' row count' wanted' book params
+pub node_moved : (page : List ℕ) (row : ℕ) (book : CodebookView) (params : Params) (pid pid' count count' : ℕ) (wanted wanted' : List ℕ) → pid ≡ pid' → count ≡ count' → wanted ≡ wanted' → IsNode page pid row count wanted book params → IsNode page pid' row count' wanted' book params
 node_moved page row book params pid pid' count count' wanted wanted' first second third is =
     subst (λ (k : ℕ). IsNode page k row count' wanted' book params) first
     (subst (λ (k : ℕ). IsNode page pid row k wanted' book params) second

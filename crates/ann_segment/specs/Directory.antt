@@ -1,6 +1,6 @@
 -- The directory of a segment: for each row, in order, the Pid (4 bytes) and the code (m bytes) of its point, and zeros up
 -- to whole blocks of 4096 bytes.
-use Rattle.std.specs.Prelude.{ℕ, zero, suc, ◌+◌, ◌-◌, ◌*◌, ◌/◌, ◌^◌, ◌<◌, All, List, [], ◌∷◌, ◌++◌, map, length, take, drop, get_or}
+use Rattle.std.specs.Prelude.{ℕ, zero, suc, ◌+◌, ◌-◌, ◌*◌, ◌/◌, ◌^◌, ◌<◌, ◌≤◌, All, List, [], ◌∷◌, ◌++◌, map, length, take, drop, get_or}
 use Rattle.std.specs.List.{flat_map}
 use Rattle.std.specs.List.Sorted.{IsStrictlyIncreasing}
 use Rattle.ann_bytes.specs.LittleEndian.{number_of, bytes_of, field}
@@ -51,3 +51,7 @@ items_in m (suc n) bytes = (number_of (take 4 bytes), field bytes 4 m) ∷ items
 -- the Pid in a row
 unfoldable pub pid_at : ℕ → List ℕ → ℕ → ℕ
 pid_at m bytes row = number_of (field bytes (row * (4 + m)) 4)
+
+-- the Pids of the rows before this one rise
+abbrev pub RiseBefore : ℕ → List ℕ → ℕ → Type 0
+RiseBefore m directory end = (row : ℕ) → 1 ≤ row → row < end → pid_at m directory (row - 1) < pid_at m directory row

@@ -1,5 +1,6 @@
 pub mod Directory
 pub mod Text
-pub mod Opening
 pub mod Segment
+pub mod Writer
+pub mod Opening
 pub mod Holds

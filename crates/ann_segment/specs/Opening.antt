@@ -1,9 +1,13 @@
 -- Which header and directory blocks are refused when a segment is opened.
-use Rattle.std.specs.Prelude.{◌≡◌, ◌≢◌, ℕ, ◌+◌, ◌-◌, ◌*◌, ◌/◌, ◌≤◌, ◌<◌, ◌⊎◌, List, length, take, drop, slice_range, None, Any}
+use Rattle.std.specs.Prelude.{◌≡◌, ◌≢◌, ℕ, zero, suc, ◌+◌, ◌-◌, ◌*◌, ◌/◌, ◌≤◌, ◌<◌, ◌⊎◌, List, length, take, drop, slice_range, None, Any, Result, MatchResult}
 use Rattle.ann_types.specs.declared.params.Params.{Params}
-use Rattle.ann_block.specs.Header.{judge_header, header_of}
+use Rattle.ann_block.specs.Header.{IsHeader, judge_header, header_of}
 use Rattle.ann_block.specs.declared.header.Header.{Header}
-use Rattle.ann_segment.specs.Directory.{directory_blocks, pid_at}
+use Rattle.ann_vault.specs.Reads.{more_reads}
+use Rattle.ann_segment.specs.Directory.{AreRising, directory_blocks, items_in, pid_at}
+use Rattle.ann_segment.specs.Segment.{SegmentView}
+use Rattle.ann_segment.specs.declared.refused.SegmentRefused.{SegmentRefused}
+use Rattle.ann_segment.specs.declared.refused.SegmentRefused.TheVariants.{Disk, Memory, BadSegment}
 
 -- the bytes of a segment of so many rows, with codes of m bytes
 unfoldable pub segment_length : ℕ → ℕ → ℕ
@@ -68,3 +72,49 @@ abbrev pub IsBadBlock : ℕ → Params → List ℕ → ℕ → Type 0
 IsBadBlock number params bytes block =
     ((block ≡ 0) × (BeginsWell number params bytes → ⊥))
     ⊎ (BeginsWell number params bytes × IsFirstRefused (header_in bytes).m (header_in bytes).count (directory_in (header_in bytes) bytes) block)
+
+-- where a block is named, it is the first that is refused
+abbrev pub IsRefusal : ℕ → Params → List ℕ → SegmentRefused → Type 0
+IsRefusal number params bytes why = (block : ℕ) → why ≡ BadSegment block → IsBadBlock number params bytes block
+
+-- ---- what is read
+
+-- a header and directory blocks that were read for a number
+pub record IsFrontFor (number : ℕ) (params : Params) (head : Header) (directory : List ℕ) : Type 0 where
+  pub header : IsHeader head
+  pub expected : IsHeaderFor number params head
+  pub rows : length directory ≡ 4096 * directory_blocks head.count head.m
+  pub rising : AreRising (items_in head.m head.count directory)
+
+-- they are those of the bytes
+pub record IsFrontOf (number : ℕ) (params : Params) (bytes : List ℕ) (head : Header) (blocks : List ℕ) : Type 0 where
+  pub front : IsFront number params bytes
+  pub header : head ≡ header_in bytes
+  pub directory : blocks ≡ directory_in head bytes
+
+-- an opened segment has the number, the parameters' code length and the seal that were given
+pub record IsOpened {S : Type 0} (wanted : ℕ) (params : Params) (given : S) (segment : SegmentView S) : Type 0 where
+  pub number : segment.number ≡ wanted
+  pub code_bytes : segment.m ≡ params.m
+  pub seal : segment.seal ≡ given
+
+-- its entry, Pids and codes are those of the bytes, which are in the format up to the nodes
+pub record IsOpenedFrom {S : Type 0} (number : ℕ) (params : Params) (bytes : List ℕ) (segment : SegmentView S) : Type 0 where
+  pub front : IsFront number params bytes
+  pub entry : segment.entry ≡ (header_in bytes).start_row
+  pub items : segment.items ≡ items_in params.m (header_in bytes).count (directory_in (header_in bytes) bytes)
+
+-- ---- how often the eye reads: the header block, and then the directory blocks at once
+
+-- how many reads an opening has made that is refused so
+abbrev pub MayRead : SegmentRefused → ℕ → Type 0
+MayRead Disk n = n ≤ 1
+MayRead Memory n = n ≡ 1
+MayRead (BadSegment zero) n = n ≤ 1
+MayRead (BadSegment (suc block)) n = n ≡ 2
+
+-- an opening has made two reads, or those of its refusal
+pub record HasRead {T E : Type 0} (why_of : E → SegmentRefused) (result : Result T E) (before now : ℕ) : Type 0 where
+  pub reads : ℕ
+  pub as_many : MatchResult result (λ _. reads ≡ 2) (λ refused. MayRead (why_of refused) reads)
+  pub counted : now ≡ more_reads reads before

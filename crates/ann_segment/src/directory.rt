@@ -16,7 +16,8 @@ struct Row {
 impl Row {
     // Puts the bytes of the row behind others.
     fn append(&self, bytes: &mut Vec<u8>) -> Result<(), AllocError>
-        ensures { OnOk result (bytes.new.items ≡ bytes.old.items ++ item_bytes (self.now.pid, self.now.code.items)) }
+        ensures { OnOk result (bytes.new.items
+            ≡ bytes.old.items ++ item_bytes (self.now.pid, self.now.code.items)) }
     {
         bytes.extend_from_slice(&self.pid.to_le_bytes())?;
         bytes.extend_from_slice(&self.code)?;

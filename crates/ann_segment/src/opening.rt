@@ -1,10 +1,12 @@
 // Reading the header and the directory of a segment.
-ghost use Rattle.std.specs.Prelude.{◌≡◌, ◌≢◌, ◌≤◌, ◌<◌, ◌+◌, ◌-◌, ◌*◌, ℕ, length, slice_range, IfOk, IfErr, IfSome, None, MatchOption, IsErrOf, IsTrue, Any, ◌↔◌};
-ghost use Rattle.ann_vault.specs.Causes.{Rose};
+ghost use Rattle.std.specs.Prelude.{◌≡◌, ◌≢◌, ◌≤◌, ◌<◌, ◌+◌, ◌-◌, ◌*◌, ◌⊎◌, ℕ, length, OnOk, OnErr, IfOk, IfErr, IfSome, None, MatchOption, MatchResult, IsTrue, Any, ◌↔◌};
+ghost use Rattle.ann_fault.specs.Counts.{next_count};
+ghost use Rattle.ann_vault.specs.Counted.{CountsFault};
+ghost use Rattle.ann_vault.specs.Reads.{more_reads};
 ghost use Rattle.ann_block.specs.Header.{IsHeader, header_of};
-ghost use Rattle.ann_segment.specs.Directory.{AreRising, directory_blocks, items_in, pid_at};
-ghost use Rattle.ann_segment.specs.Opening.{segment_length, IsHeaderFor, IsFirstBlock, BeginsWell, header_in, directory_in, IsDirectory, IsFirstRefused, IsFront, IsBadBlock};
-ghost use Rattle.ann_segment.specs.declared.refused.SegmentRefused.TheVariants.{Disk, BadSegment};
+ghost use Rattle.ann_segment.specs.Directory.{AreRising, directory_blocks, items_in, pid_at, RiseBefore};
+ghost use Rattle.ann_segment.specs.Opening.{segment_length, IsHeaderFor, IsFirstBlock, BeginsWell, header_in, directory_in, IsDirectory, IsFirstRefused, IsRefusal, IsFrontFor, IsFrontOf, HasRead};
+ghost use Rattle.ann_segment.specs.declared.refused.SegmentRefused.TheVariants.{Disk, Memory, BadSegment};
 
 use crate::SegmentRefused;
 use crate::fields::{BLOCK, directory_blocks, pid_at, segment_length};
@@ -28,13 +30,12 @@ pub(crate) fn read_front<S: Sealed, E: Eye<Seal = S>>(
     params: &Params,
     eye: &mut E,
 ) -> Result<Front, SegmentRefused>
-    ensures header { IfOk result (λ front. IsHeader front.header × IsHeaderFor number params.now front.header) }
-    ensures rows { IfOk result (λ front. length front.directory.items ≡ 4096 * directory_blocks front.header.count front.header.m) }
-    ensures rising { IfOk result (λ front. AreRising (items_in front.header.m front.header.count front.directory.items)) }
-    ensures told { S.tells → IfOk result (λ front. IsFront number params.now (S.bytes seal.now) × (front.header ≡ header_in (S.bytes seal.now)) × (front.directory.items ≡ directory_in front.header (S.bytes seal.now))) }
-    ensures refused { S.tells → IfErr result (λ why. (block : ℕ) → why ≡ BadSegment block → IsBadBlock number params.now (S.bytes seal.now) block) }
-    ensures later { E.faults eye.old ≤ E.faults eye.new }
-    ensures disk { IfErr result (λ why. why ≡ Disk → Rose (E.faults eye.old) (E.faults eye.new)) }
+    ensures front { IfOk result (λ front. IsFrontFor number params.now front.header front.directory.items) }
+    ensures told { S.tells → MatchResult result
+        (λ front. IsFrontOf number params.now (S.bytes seal.now) front.header front.directory.items)
+        (IsRefusal number params.now (S.bytes seal.now)) }
+    ensures reads { HasRead (λ why. why) result (E.reads eye.old) (E.reads eye.new) }
+    ensures cause { CountsFault (λ why. why ≡ Disk) result (E.faults eye.old) (E.faults eye.new) }
 {
     let header = read_first(seal, number, params, eye)?;
     let directory = read_directory(alloc, seal, &header, eye)?;
@@ -52,10 +53,14 @@ fn read_first<S: Sealed, E: Eye<Seal = S>>(
     eye: &mut E,
 ) -> Result<Header, SegmentRefused>
     ensures header { IfOk result (λ header. IsHeader header × IsHeaderFor number params.now header) }
-    ensures told { S.tells → IfOk result (λ header. BeginsWell number params.now (S.bytes seal.now) × (header ≡ header_in (S.bytes seal.now))) }
-    ensures refused { S.tells → IfErr result (λ why. (block : ℕ) → why ≡ BadSegment block → (block ≡ 0) × (BeginsWell number params.now (S.bytes seal.now) → ⊥)) }
-    ensures later { E.faults eye.old ≤ E.faults eye.new }
-    ensures disk { IfErr result (λ why. why ≡ Disk → Rose (E.faults eye.old) (E.faults eye.new)) }
+    ensures told { S.tells → IfOk result (λ header.
+        BeginsWell number params.now (S.bytes seal.now) × (header ≡ header_in (S.bytes seal.now))) }
+    ensures bad { S.tells → IfErr result
+        (λ why. why ≡ BadSegment 0 → BeginsWell number params.now (S.bytes seal.now) → ⊥) }
+    ensures refused { IfErr result (λ why. (why ≡ Disk) ⊎ (why ≡ BadSegment 0)) }
+    ensures reads { (n : ℕ) × (n ≤ 1) × OnOk result (n ≡ 1)
+        × (E.reads eye.new ≡ more_reads n (E.reads eye.old)) }
+    ensures cause { CountsFault (λ why. why ≡ Disk) result (E.faults eye.old) (E.faults eye.new) }
 {
     let long = eye.length(seal)?;
     if long < BLOCK as u64 {
@@ -73,7 +78,8 @@ fn read_first<S: Sealed, E: Eye<Seal = S>>(
 fn expected_header(block: &[u8], long: u64, number: u64, params: &Params) -> Option<Header>
     ensures { MatchOption result
         (IsFirstBlock number params.now long block.now → ⊥)
-        (λ header. IsFirstBlock number params.now long block.now × (header ≡ header_of block.now) × IsHeader header) }
+        (λ header. IsFirstBlock number params.now long block.now
+        × (header ≡ header_of block.now) × IsHeader header) }
 {
     let Ok(header) = read_header(block) else {
         return None;
@@ -102,11 +108,14 @@ fn read_directory<S: Sealed, E: Eye<Seal = S>>(
 ) -> Result<Vec<u8>, SegmentRefused>
     requires header { IsHeader header.now }
     requires long { S.tells → length (S.bytes seal.now) ≡ segment_length header.now.count header.now.m }
-    ensures rows { IfOk result (λ directory. length directory.items ≡ 4096 * directory_blocks header.now.count header.now.m) }
-    ensures told { S.tells → IfOk result (λ directory. directory.items ≡ directory_in header.now (S.bytes seal.now)) }
-    ensures refused { IfErr result (λ why. (block : ℕ) → why ≢ BadSegment block) }
-    ensures later { E.faults eye.old ≤ E.faults eye.new }
-    ensures disk { IfErr result (λ why. why ≡ Disk → Rose (E.faults eye.old) (E.faults eye.new)) }
+    ensures rows { IfOk result
+        (λ directory. length directory.items ≡ 4096 * directory_blocks header.now.count header.now.m) }
+    ensures told { S.tells → IfOk result
+        (λ directory. directory.items ≡ directory_in header.now (S.bytes seal.now)) }
+    ensures refused { IfErr result (λ why. (why ≡ Disk) ⊎ (why ≡ Memory)) }
+    ensures read { OnOk result (E.reads eye.new ≡ next_count (E.reads eye.old)) }
+    ensures unread { OnErr result (E.reads eye.new ≡ E.reads eye.old) }
+    ensures cause { CountsFault (λ why. why ≡ Disk) result (E.faults eye.old) (E.faults eye.new) }
 {
     let size = BLOCK * directory_blocks(header.count, header.m) as usize;
     let mut directory = vec![in alloc; 0; size]?;
@@ -118,8 +127,10 @@ fn read_directory<S: Sealed, E: Eye<Seal = S>>(
 fn refused_block(directory: &[u8], count: u32, m: u16) -> Option<u64>
     requires size { m ≤ 64 }
     requires rows { length directory.now ≡ 4096 * directory_blocks count m }
-    ensures found { MatchOption result (IsDirectory m count directory.now) (IsFirstRefused m count directory.now) }
+    ensures found { MatchOption result
+        (IsDirectory m count directory.now) (IsFirstRefused m count directory.now) }
     ensures rising { result ≡ None → AreRising (items_in m count directory.now) }
+    ensures behind { IfSome result (λ block. 1 ≤ block) }
 {
     let size = 4 + u64::from(m);
     if let Some(row) = first_fall(directory, count, m) {
@@ -144,10 +155,10 @@ fn has_other_than_zeros(bytes: &[u8]) -> bool
 fn first_fall(directory: &[u8], count: u32, m: u16) -> Option<u32>
     requires size { m ≤ 64 }
     requires rows { count * (4 + m) ≤ length directory.now }
-    ensures none { result ≡ None → (row : ℕ) → 1 ≤ row → row < count → pid_at m directory.now (row - 1) < pid_at m directory.now row }
+    ensures none { result ≡ None → RiseBefore m directory.now count }
     ensures below { IfSome result (λ fall. (1 ≤ fall) × (fall < count)) }
     ensures falls { IfSome result (λ fall. pid_at m directory.now fall ≤ pid_at m directory.now (fall - 1)) }
-    ensures first { IfSome result (λ fall. (row : ℕ) → 1 ≤ row → row < fall → pid_at m directory.now (row - 1) < pid_at m directory.now row) }
+    ensures first { IfSome result (RiseBefore m directory.now) }
 {
     for row in 1..count {
         if pid_at(directory, m, row) <= pid_at(directory, m, row - 1) {

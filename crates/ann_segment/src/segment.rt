@@ -1,12 +1,13 @@
 // A segment that is sealed.
-ghost use Rattle.std.specs.Prelude.{◌≡◌, ◌≢◌, ◌≤◌, ◌<◌, ◌+◌, ◌*◌, ◌↔◌, ◌^◌, ℕ, length, slice_range, IfOk, IfErr, OnOk, OnErr, IsTrue, IsErrOf};
+ghost use Rattle.std.specs.Prelude.{◌≡◌, ◌≤◌, ◌<◌, ◌+◌, ◌*◌, ◌↔◌, ◌^◌, length, IfOk, IfErr, IsTrue, IsErrOf, MatchResult};
 ghost use Rattle.ann_types.specs.Codes.{code};
-ghost use Rattle.ann_vault.specs.Causes.{Rose, next_count};
-ghost use Rattle.ann_segment.specs.Directory.{Item, item_of, items_in};
-ghost use Rattle.ann_segment.specs.Opening.{segment_length, header_in, directory_in, IsFront, IsBadBlock};
-ghost use Rattle.ann_segment.specs.Segment.{SegmentView, IsSegment, IsEntryOf, node_block, IsNode, IsNodeIn};
-ghost use Rattle.ann_segment.specs.declared.refused.SegmentRefused.TheVariants.{Disk, BadSegment};
-ghost use Rattle.ann_segment.specs.declared.refused.VerifyRefused.TheVariants.{Disk as Unread, BadSegment as BadNode};
+ghost use Rattle.ann_vault.specs.Counted.{CountsFault, CountsRead};
+ghost use Rattle.ann_segment.specs.Directory.{item_of};
+ghost use Rattle.ann_segment.specs.Holds.{OpensText};
+ghost use Rattle.ann_segment.specs.Opening.{HasRead, IsOpened, IsOpenedFrom, IsRefusal};
+ghost use Rattle.ann_segment.specs.Segment.{SegmentView, IsSegment, node_block, sealed_block, IsNode, IsVerdict};
+ghost use Rattle.ann_segment.specs.declared.refused.SegmentRefused.TheVariants.{Disk};
+ghost use Rattle.ann_segment.specs.declared.refused.VerifyRefused.TheVariants.{Disk as Unread};
 
 use crate::fields::{BLOCK, directory_blocks, pid_at};
 use crate::opening::read_front;
@@ -43,7 +44,7 @@ impl<S: Sealed> Model for Segment<S> {
     ghost invariant = { λ s. (s.m ≤ 64)
         × (s.count * (4 + s.m) ≤ length s.directory.items)
         × IsSegment (record { number = s.number; m = s.m; entry = s.start_row; items = items_in s.m s.count s.directory.items; seal = s.seal })
-        × (S.tells → length (S.bytes s.seal) ≡ segment_length s.count s.m) };
+        × (S.tells → (S.number s.seal ≡ s.number) × (length (S.bytes s.seal) ≡ segment_length s.count s.m)) };
 }
 
 impl<S: Sealed> Segment<S> {
@@ -61,17 +62,17 @@ impl<S: Sealed> Segment<S> {
         eye: &mut E,
     ) -> Result<Segment<S>, (SegmentRefused, S)>
         requires { S.tells → S.number seal ≡ number }
-        ensures number { IfOk result (λ segment. (segment.number ≡ number) × (segment.m ≡ params.now.m)) }
-        ensures seal { IfOk result (λ segment. segment.seal ≡ seal) }
+        ensures opened { IfOk result (IsOpened number params.now seal) }
         ensures given_back { IfErr result (λ refused. refused.1 ≡ seal) }
-        // What is opened is what was sealed, and its header and directory are in the format.
-        ensures front { S.tells → IfOk result (λ segment. IsFront number params.now (S.bytes seal)) }
-        ensures entry { S.tells → IfOk result (λ segment. segment.entry ≡ (header_in (S.bytes seal)).start_row) }
-        ensures items { S.tells → IfOk result (λ segment. segment.items ≡ items_in params.now.m (header_in (S.bytes seal)).count (directory_in (header_in (S.bytes seal)) (S.bytes seal))) }
-        // A bad block is the first that the format refuses.
-        ensures refused { S.tells → IfErr result (λ refused. (block : ℕ) → refused.0 ≡ BadSegment block → IsBadBlock number params.now (S.bytes seal) block) }
-        ensures later { E.faults eye.old ≤ E.faults eye.new }
-        ensures disk { IfErr result (λ refused. refused.0 ≡ Disk → Rose (E.faults eye.old) (E.faults eye.new)) }
+        // What is opened is what was sealed, and a bad block is the first that the format refuses.
+        ensures told { S.tells → MatchResult result
+            (IsOpenedFrom number params.now (S.bytes seal))
+            (λ refused. IsRefusal number params.now (S.bytes seal) refused.0) }
+        // The text of a graph is opened as this graph.
+        ensures holds { S.tells → OpensText number params.now (S.bytes seal) result }
+        ensures reads { HasRead (λ refused. refused.0) result (E.reads eye.old) (E.reads eye.new) }
+        ensures cause { CountsFault (λ refused. refused.0 ≡ Disk)
+            result (E.faults eye.old) (E.faults eye.new) }
     {
         match read_front(alloc, &seal, number, params, eye) {
             Ok(front) => Ok(Segment {
@@ -86,10 +87,11 @@ impl<S: Sealed> Segment<S> {
         }
     }
 
-    /// What is true of every segment: its Pids rise with its rows, and its entry is a row, or none where there is no row.
-    /// It does nothing.
+    /// What is true of every segment: its Pids rise with its rows, its entry is a row, or none where there is no row, and
+    /// its seal has its number. It does nothing.
     pub fn known(&self)
-        ensures { IsSegment self.now }
+        ensures sound { IsSegment self.now }
+        ensures number { S.tells → S.number self.now.seal ≡ self.now.number }
     {
         let _ = &self.number;
     }
@@ -164,14 +166,12 @@ impl<S: Sealed> Segment<S> {
     ) -> Result<(), VerifyRefused>
         requires row { row < length self.now.items }
         requires page { length page.old ≡ 4096 }
-        ensures fine { OnOk result (IsNodeIn self.now row book.now params.now page.new) }
-        ensures fault { IfErr result (λ why. (block : ℕ) → why ≡ BadNode block → (block ≡ node_block self.now row) × (IsNodeIn self.now row book.now params.now page.new → ⊥)) }
+        ensures judged { IsVerdict self.now row book.now params.now page.new result }
         // What is judged is what is sealed.
-        ensures told { S.tells → (IsErrOf result Unread → ⊥) → page.new ≡ slice_range (S.bytes self.now.seal) (4096 * node_block self.now row) (4096 * node_block self.now row + 4096) }
-        ensures counted { (IsErrOf result Unread → ⊥) → E.reads eye.new ≡ next_count (E.reads eye.old) }
-        ensures uncounted { IsErrOf result Unread → E.reads eye.new ≡ E.reads eye.old }
-        ensures later { E.faults eye.old ≤ E.faults eye.new }
-        ensures disk { IsErrOf result Unread → Rose (E.faults eye.old) (E.faults eye.new) }
+        ensures told { S.tells → (IsErrOf result Unread → ⊥)
+            → page.new ≡ sealed_block (S.bytes self.now.seal) (node_block self.now row) }
+        ensures reads { CountsRead (λ why. why ≡ Unread) result (E.reads eye.old) (E.reads eye.new) }
+        ensures cause { CountsFault (λ why. why ≡ Unread) result (E.faults eye.old) (E.faults eye.new) }
     {
         let block = self.node_block(row);
         eye.read(&self.seal, 4096 * block, page)?;
@@ -216,7 +216,8 @@ fn is_node(
 
 // A vector has the codebook's dimension and this code over it.
 fn has_code(book: &Codebook, vector: &[u8], wanted: &[u8]) -> bool
-    ensures { IsTrue result ↔ ((length vector.now ≡ book.now.d) × (code book.now.book vector.now ≡ wanted.now)) }
+    ensures { IsTrue result
+        ↔ ((length vector.now ≡ book.now.d) × (code book.now.book vector.now ≡ wanted.now)) }
 {
     book.known();
     if vector.len() != usize::from(book.d()) {

@@ -1,15 +1,13 @@
 // Writing a segment into a draft of a vault.
-ghost use Rattle.std.specs.Prelude.{◌≡◌, ◌⊎◌, ◌≤◌, ◌<◌, ◌+◌, ◌*◌, ◌++◌, ◌^◌, ℕ, None, length, IfOk, IfErr, OnOk, OnErr, IsErrOf};
-ghost use Rattle.std.specs.List.{flat_map};
+ghost use Rattle.std.specs.Prelude.{◌≡◌, ◌⊎◌, ◌<◌, ◌+◌, ◌*◌, ◌++◌, ◌^◌, None, length, IfOk, IfErr, MatchResult};
 ghost use Rattle.std.specs.FinMap as map;
-ghost use Rattle.ann_vault.specs.Causes.{HasCause, Rose};
+ghost use Rattle.ann_fault.specs.Counts.{HasCause};
+ghost use Rattle.ann_vault.specs.Counted.{CountsFault};
+ghost use Rattle.ann_vault.specs.Drafts.{KeepsOthers};
+ghost use Rattle.ann_vault.specs.Held.{MayBeSealed};
 ghost use Rattle.ann_block.specs.Header.{IsHeader, header_bytes};
-ghost use Rattle.ann_types.specs.Graph.{Graph};
-ghost use Rattle.ann_types.specs.Codes.{Book};
-ghost use Rattle.ann_types.specs.declared.params.Params.{Params};
-ghost use Rattle.ann_segment.specs.Directory.{blocks_of, directory_blocks, filled};
-ghost use Rattle.ann_segment.specs.Segment.{AreFront, SegmentView, WriterView};
-ghost use Rattle.ann_segment.specs.Text.{front_bytes, header_for, items_for, node_for, segment_text};
+ghost use Rattle.ann_segment.specs.Directory.{blocks_of, filled};
+ghost use Rattle.ann_segment.specs.Writer.{AreFront, HasBegun, HasFront, HasMore, HasRow, IsDraftOf, IsWritten, KeepsRest, SealsText, IsSealedFrom};
 ghost use Rattle.ann_segment.specs.declared.refused.SegmentRefused.TheVariants.{Disk, Memory};
 
 use crate::fields::BLOCK;
@@ -31,7 +29,7 @@ impl<D: Drop> Model for SegmentWriter<D> {
     ghost use Rattle.std.specs.Prelude.{◌≡◌, ◌≤◌, ◌+◌, ◌*◌, length};
     ghost use Rattle.ann_block.specs.Header.{IsHeader};
     ghost use Rattle.ann_segment.specs.Directory.{items_in, AreRising};
-    ghost use Rattle.ann_segment.specs.Segment.{WriterView};
+    ghost use Rattle.ann_segment.specs.Writer.{WriterView};
 
     ghost Value = { WriterView D };
 
@@ -55,15 +53,13 @@ impl<D: Drop> SegmentWriter<D> {
     ) -> Result<SegmentWriter<D>, SegmentRefused>
         requires front { AreFront header directory }
         requires new { V.Seal.tells → map.get (V.held vault.old) header.number ≡ None }
-        ensures header { IfOk result (λ writer. writer.header ≡ header) }
-        ensures items { IfOk result (λ writer. writer.items ≡ directory) }
-        ensures none { IfOk result (λ writer. writer.written ≡ 0) }
-        ensures number { V.Seal.tells → IfOk result (λ writer. V.draft_number writer.draft ≡ header.number) }
-        ensures blocks { V.Seal.tells → IfOk result (λ writer. V.draft_bytes writer.draft ≡ front_bytes header directory) }
-        ensures long { V.Seal.tells → IfOk result (λ writer. length (V.draft_bytes writer.draft) ≡ 4096 * (1 + directory_blocks header.count header.m)) }
-        ensures same { V.Seal.tells → V.held vault.new ≡ V.held vault.old }
-        ensures later { V.faults vault.old ≤ V.faults vault.new }
-        ensures refused { IfErr result (λ why. ((why ≡ Disk) × Rose (V.faults vault.old) (V.faults vault.new)) ⊎ (why ≡ Memory)) }
+        ensures begun { IfOk result (HasBegun header directory) }
+        ensures front { V.Seal.tells → IfOk result (λ writer.
+            HasFront V.is_current V.draft_number V.draft_bytes header directory vault.new writer.draft) }
+        ensures rest { V.Seal.tells →
+            KeepsRest V.is_current V.draft_number V.held header.number vault.old vault.new }
+        ensures refused { IfErr result (λ why. (why ≡ Disk) ⊎ (why ≡ Memory)) }
+        ensures cause { CountsFault (λ why. why ≡ Disk) result (V.faults vault.old) (V.faults vault.new) }
     {
         let bytes = directory.bytes()?;
         let mut draft = vault.create(header.number)?;
@@ -88,14 +84,14 @@ impl<D: Drop> SegmentWriter<D> {
     ) -> Result<(), SegmentRefused>
         requires block { length block.now ≡ 4096 }
         requires more { self.old.written < self.old.header.count }
-        ensures header { self.new.header ≡ self.old.header }
-        ensures items { self.new.items ≡ self.old.items }
-        ensures written { OnOk result (self.new.written ≡ self.old.written + 1) }
-        ensures number { V.Seal.tells → V.draft_number self.new.draft ≡ V.draft_number self.old.draft }
-        ensures blocks { V.Seal.tells → OnOk result (V.draft_bytes self.new.draft ≡ V.draft_bytes self.old.draft ++ block.now) }
-        ensures same { V.Seal.tells → V.held vault.new ≡ V.held vault.old }
-        ensures later { V.faults vault.old ≤ V.faults vault.new }
-        ensures refused { IfErr result (λ why. (why ≡ Disk) × Rose (V.faults vault.old) (V.faults vault.new)) }
+        requires current { V.Seal.tells → V.is_current vault.old self.old.draft }
+        ensures row { HasRow result self.old self.new }
+        ensures draft { V.Seal.tells → HasMore V.is_current V.draft_number V.draft_bytes
+            block.now result vault.new self.old.draft self.new.draft }
+        ensures rest { V.Seal.tells → KeepsRest V.is_current V.draft_number V.held
+            (V.draft_number self.old.draft) vault.old vault.new }
+        ensures refused { IfErr result (λ why. why ≡ Disk) }
+        ensures cause { HasCause (V.faults vault.old) (V.faults vault.new) result }
     {
         vault.write(&mut self.draft, block)?;
         self.written += 1;
@@ -113,22 +109,20 @@ impl<D: Drop> SegmentWriter<D> {
     ) -> Result<Segment<V::Seal>, SegmentRefused>
         requires all { self.written ≡ self.header.count }
         // The vault is the same one: the draft is that of the number, and has the blocks that were written.
-        requires number { V.Seal.tells → V.draft_number self.draft ≡ self.header.number }
-        requires long { V.Seal.tells → length (V.draft_bytes self.draft) ≡ 4096 * (1 + directory_blocks self.header.count self.header.m + self.written) }
-        ensures number { IfOk result (λ segment. (segment.number ≡ self.header.number) × (segment.m ≡ self.header.m)) }
-        ensures entry { IfOk result (λ segment. segment.entry ≡ self.header.start_row) }
-        ensures items { IfOk result (λ segment. segment.items ≡ self.items) }
-        ensures sealed { V.Seal.tells → OnOk result (V.held vault.new ≡ map.insert (V.held vault.old) self.header.number (V.draft_bytes self.draft)) }
-        ensures seal { V.Seal.tells → IfOk result (λ segment. (V.Seal.number segment.seal ≡ self.header.number) × (V.Seal.bytes segment.seal ≡ V.draft_bytes self.draft)) }
+        requires draft { V.Seal.tells → IsDraftOf V.is_current V.draft_number V.draft_bytes self vault.old }
+        ensures segment { IfOk result (IsWritten self) }
+        ensures sealed { V.Seal.tells → MatchResult result
+            (λ segment. IsSealedFrom V.Seal.number V.Seal.bytes
+            self.header.number (V.draft_bytes self.draft) segment.seal (V.held vault.old) (V.held vault.new))
+            (λ _. MayBeSealed
+            self.header.number (V.draft_bytes self.draft) (V.held vault.old) (V.held vault.new)) }
         // Where the blocks are those of a graph, its text is sealed.
-        ensures text { V.Seal.tells → (params : Params) (book : Book) (graph : Graph)
-            → self.header ≡ header_for params graph self.header.number
-            → self.items ≡ items_for book graph
-            → V.draft_bytes self.draft ≡ front_bytes self.header self.items ++ flat_map (node_for graph.points) graph.points
-            → IfOk result (λ segment. V.Seal.bytes segment.seal ≡ segment_text params book graph self.header.number) }
-        ensures unsealed { V.Seal.tells → OnErr result ((V.held vault.new ≡ V.held vault.old) ⊎ (V.held vault.new ≡ map.insert (V.held vault.old) self.header.number (V.draft_bytes self.draft))) }
-        ensures later { V.faults vault.old ≤ V.faults vault.new }
-        ensures refused { IfErr result (λ why. (why ≡ Disk) × Rose (V.faults vault.old) (V.faults vault.new)) }
+        ensures text { V.Seal.tells →
+            IfOk result (λ segment. SealsText self (V.draft_bytes self.draft) (V.Seal.bytes segment.seal)) }
+        ensures others { V.Seal.tells →
+            KeepsOthers V.is_current vault.old vault.new V.draft_number self.header.number }
+        ensures refused { IfErr result (λ why. why ≡ Disk) }
+        ensures cause { HasCause (V.faults vault.old) (V.faults vault.new) result }
     {
         let seal = vault.seal(self.draft)?;
         Ok(Segment {
@@ -150,9 +144,11 @@ fn write_front<V: Vault>(
     directory: &[u8],
 ) -> Result<(), Failed>
     requires header { IsHeader header.now }
-    ensures number { V.Seal.tells → V.draft_number draft.new ≡ V.draft_number draft.old }
-    ensures blocks { V.Seal.tells → OnOk result (V.draft_bytes draft.new ≡ V.draft_bytes draft.old ++ (header_bytes header.now ++ filled directory.now)) }
-    ensures same { V.Seal.tells → V.held vault.new ≡ V.held vault.old }
+    requires current { V.Seal.tells → V.is_current vault.old draft.old }
+    ensures draft { V.Seal.tells → HasMore V.is_current V.draft_number V.draft_bytes
+        (header_bytes header.now ++ filled directory.now) result vault.new draft.old draft.new }
+    ensures rest { V.Seal.tells → KeepsRest V.is_current V.draft_number V.held
+        (V.draft_number draft.old) vault.old vault.new }
     ensures cause { HasCause (V.faults vault.old) (V.faults vault.new) result }
 {
     let mut block = [0; BLOCK];

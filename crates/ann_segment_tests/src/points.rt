@@ -78,7 +78,18 @@ pub(crate) fn two_points(
 /// A segment, or why it isn't opened.
 pub(crate) type Opened = Result<Segment<MemorySeal>, SegmentRefused>;
 
-/// What is opened of these bytes under a number.
+// Whether bytes are still sealed under a number, and stand in a seal of it that came back.
+fn is_kept(
+    vault: &mut MemoryVault,
+    number: u64,
+    seal: &MemorySeal,
+    bytes: &[u8],
+) -> Result<bool, Fail> {
+    let held = vault.open(number)?.ok_or("no seal")?;
+    Ok(held.bytes() == bytes && seal.bytes() == bytes)
+}
+
+/// What is opened of these bytes under a number. A refusal leaves the vault and the seal.
 pub(crate) fn opened(
     alloc: Global,
     number: u64,
@@ -93,7 +104,12 @@ pub(crate) fn opened(
     let seal = vault.open(number)?.ok_or("no seal")?;
     match Segment::open(alloc, seal, number, params, eye) {
         Ok(segment) => Ok(Ok(segment)),
-        Err((why, _seal)) => Ok(Err(why)),
+        Err((why, seal)) => {
+            if !is_kept(&mut vault, number, &seal, bytes)? {
+                return Err("a refused segment was changed".into());
+            }
+            Ok(Err(why))
+        }
     }
 }
 

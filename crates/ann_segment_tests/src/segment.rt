@@ -1,9 +1,13 @@
+ghost use Rattle.std.specs.Prelude.{◌≡◌, None};
+ghost use Rattle.std.specs.FinMap as map;
+ghost use Rattle.ann_vault.specs.Memory.{memory_held};
+
 use crate::points::{codebook, opened, params, put};
 use ann_block::{Header, write_node};
 use ann_pq::Codebook;
 use ann_segment::{Directory, Segment, SegmentRefused, SegmentWriter, VerifyRefused};
 use ann_types::Params;
-use ann_vault::{MemoryEye, MemorySeal, MemoryVault};
+use ann_vault::{MemoryEye, MemorySeal, MemoryVault, Vault};
 use std::alloc::{AllocError, Global};
 use std::test::Fail;
 
@@ -43,9 +47,10 @@ fn text(alloc: Global) -> Result<Vec<u8>, AllocError> {
     Ok(bytes)
 }
 
-// Writes it into a vault whose calls with these numbers fail.
-fn written(alloc: Global, failing: &[u64]) -> Result<Segment<MemorySeal>, SegmentRefused> {
-    let mut vault = MemoryVault::new(alloc, failing)?;
+// Writes it into a vault.
+fn write_into(alloc: Global, vault: &mut MemoryVault) -> Result<Segment<MemorySeal>, SegmentRefused>
+    requires { map.get (memory_held vault.old) 13 ≡ None }
+{
     let header = Header {
         number: 13,
         d: 1,
@@ -57,13 +62,19 @@ fn written(alloc: Global, failing: &[u64]) -> Result<Segment<MemorySeal>, Segmen
     let mut directory = Directory::new(alloc);
     directory.push(0, &[10])?;
     directory.push(2, &[30])?;
-    let mut writer = SegmentWriter::start(&mut vault, header, directory)?;
+    let mut writer = SegmentWriter::start(vault, header, directory)?;
     let mut block = [0; 4096];
     write_node(0, 1, &[10], &[1], &mut block);
-    writer.node(&mut vault, &block)?;
+    writer.node(vault, &block)?;
     write_node(2, 3, &[30], &[0], &mut block);
-    writer.node(&mut vault, &block)?;
-    writer.finish(&mut vault)
+    writer.node(vault, &block)?;
+    writer.finish(vault)
+}
+
+// Writes it into a vault whose calls with these numbers fail.
+fn written(alloc: Global, failing: &[u64]) -> Result<Segment<MemorySeal>, SegmentRefused> {
+    let mut vault = MemoryVault::new(alloc, failing)?;
+    write_into(alloc, &mut vault)
 }
 
 // Puts the node blocks of a segment that aren't verified into a list.
@@ -132,20 +143,39 @@ fn a_segment_is_written(rt: HostRuntime) -> Result<(), Fail> {
     Ok(())
 }
 
+// Whether a vault holds these bytes under the number 12, and nothing else.
+fn holds_alone(alloc: Global, vault: &mut MemoryVault, bytes: &[u8]) -> Result<bool, Fail> {
+    let mut numbers = Vec::new(alloc);
+    vault.numbers(&mut numbers)?;
+    let held = vault.open(12)?.ok_or("no seal")?;
+    Ok(numbers.as_slice() == [12].as_slice() && held.bytes() == bytes)
+}
+
+// Why the segment isn't written where this call of the vault fails. The vault then holds what it held.
+fn writing_refused(alloc: Global, call: u64) -> Result<Option<SegmentRefused>, Fail> {
+    let mut vault = MemoryVault::new(alloc, &[call])?;
+    vault.preset(12, b"ab")?;
+    let refused = write_into(alloc, &mut vault).err();
+    if !holds_alone(alloc, &mut vault, b"ab")? {
+        return Err("a refusal left another vault".into());
+    }
+    Ok(refused)
+}
+
 // The draft is begun, the front is written in three calls and the nodes in two, and the draft is sealed: the first of these
 // calls whose failure isn't told.
-fn wrong_write(alloc: Global) -> Option<u64> {
+fn wrong_write(alloc: Global) -> Result<Option<u64>, Fail> {
     for call in 1..=7 {
-        if written(alloc, &[call]).err() != Some(SegmentRefused::Disk) {
-            return Some(call);
+        if writing_refused(alloc, call)? != Some(SegmentRefused::Disk) {
+            return Ok(Some(call));
         }
     }
-    None
+    Ok(None)
 }
 
 #[test]
 fn a_call_of_the_vault_fails(rt: HostRuntime) -> Result<(), Fail> {
-    assert_eq!(rt; wrong_write(rt.alloc()), None);
+    assert_eq!(rt; wrong_write(rt.alloc())?, None);
     assert_eq!(rt; written(rt.alloc(), &[8])?.count(), 2);
     Ok(())
 }

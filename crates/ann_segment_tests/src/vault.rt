@@ -25,7 +25,9 @@ fn sealed_length<V: Vault, E: Eye<Seal = V::Seal>>(
     eye: &mut E,
     mut draft: V::Draft,
     bytes: &[u8],
-) -> Result<u64, Failed> {
+) -> Result<u64, Failed>
+    requires { V.Seal.tells → V.is_current vault.old draft }
+{
     vault.write(&mut draft, bytes)?;
     let seal = vault.seal(draft)?;
     eye.length(&seal)

@@ -14,6 +14,10 @@ pub record Node : Type 0 where
   pub links : List ℕ
   pub newer : ℕ
 
+-- a node of whose neighbours nothing is known
+abbrev pub new_node : ℕ → ℕ → List ℕ → List ℕ → Node
+new_node pid tag vector links = record { pid = pid; tag = tag; vector = vector; links = links; newer = 0 }
+
 -- what stands where there is no row
 abbrev pub nothing : Node
 nothing = record { pid = 0; tag = 0; vector = []; links = []; newer = 0 }

@@ -2,6 +2,7 @@
 use Rattle.std.specs.Prelude.{◌≡◌, ◌≢◌, ◌≤◌, ◌<◌, ◌+◌, ℕ, List, [], ◌∷◌, length, All}
 use Rattle.std.specs.List.Sorted.{IsStrictlyIncreasing}
 use Rattle.ann_types.specs.Kept.{rule_of}
+use Rattle.ann_types.specs.Legal.{pid_end}
 use Rattle.ann_types.specs.declared.params.Params.{Params}
 use Rattle.ann_prune.specs.Newer.{AreSettled}
 use Rattle.ann_table.specs.Lists.{Lists}
@@ -28,10 +29,15 @@ pub record IsNode (params : Params) (nodes : List Node) (row : ℕ) (x : Node) :
   pub settled : AreSettled (rule_of params) (apart_rows nodes) row x.newer x.links
   pub newer : x.newer ≤ length nodes
 
+-- above all neighbours of a node, and not below its `newer`
+pub record ComesLast (neighbour : ℕ) (x : Node) : Type 0 where
+  pub above : All (λ other. other < neighbour) x.links
+  pub newer : x.newer ≤ neighbour
+
 -- Pids rise with the rows and are below 2^32 - 1, and each row is sound
 pub record AreNodes (params : Params) (nodes : List Node) : Type 0 where
   pub rising : IsStrictlyIncreasing (row_pids nodes)
-  pub small : All (λ x. x.pid < 4294967295) nodes
+  pub small : All (λ x. x.pid < pid_end) nodes
   pub each : (row : ℕ) → row < length nodes → IsNode params nodes row (node_at nodes row)
 
 -- ---- how a table keeps its rows

@@ -95,7 +95,8 @@ impl Links {
         requires row { row < length self.old.lists }
         requires few { length (get_or self.old.lists row []) < self.old.places }
         ensures places { self.new.places ≡ self.old.places }
-        ensures lists { self.new.lists ≡ slice_set self.old.lists row (get_or self.old.lists row [] ++ number ∷ []) }
+        ensures lists { let list = get_or self.old.lists row [] in
+            self.new.lists ≡ slice_set self.old.lists row (list ++ number ∷ []) }
         ensures spare { self.new.spare ≡ self.old.spare }
     {
         let count = self.counts[row as usize];
@@ -118,7 +119,7 @@ impl Links {
 
     /// Lists of their own that are equal to these, without room for more.
     pub(crate) fn copy(&self) -> Result<Links, AllocError>
-        ensures { IfOk result (λ copy. copy ≡ record { places = self.now.places; lists = self.now.lists; spare = 0 }) }
+        ensures { IfOk result (λ copy. copy ≡ record self.now { spare = 0 }) }
     {
         Ok(Links {
             places: self.places,

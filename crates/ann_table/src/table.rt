@@ -1,8 +1,9 @@
 ghost use Rattle.std.specs.Prelude.{◌≡◌, ◌≢◌, ◌≤◌, ◌<◌, ◌+◌, ◌++◌, ◌∷◌, [], length, All, IfOk, OnOk};
 ghost use Rattle.ann_types.specs.Kept.{rule_of};
+ghost use Rattle.ann_types.specs.Legal.{pid_end};
 ghost use Rattle.ann_prune.specs.Newer.{AreSettled};
-ghost use Rattle.ann_table.specs.Node.{node_at, rows_of, apart_rows, row_pid, linked};
-ghost use Rattle.ann_table.specs.Table.{AreNeighbours, AreNodes};
+ghost use Rattle.ann_table.specs.Node.{new_node, node_at, rows_of, apart_rows, row_pid, linked};
+ghost use Rattle.ann_table.specs.Table.{ComesLast, AreNeighbours, AreNodes};
 
 use crate::label::Label;
 use crate::links::Links;
@@ -73,11 +74,12 @@ impl Table {
     pub fn add(&mut self, pid: Pid, tag: Tag, vector: &[u8], neighbours: &[u32])
         requires room { 1 ≤ self.old.spare }
         requires pid { All (λ node. node.pid < pid) self.old.nodes }
-        requires small { pid < 4294967295 }
+        requires small { pid < pid_end }
         requires vector { length vector.now ≡ self.old.params.d }
-        requires neighbours { AreNeighbours self.old.params (length self.old.nodes) (length self.old.nodes) neighbours.now }
+        requires neighbours { let count = length self.old.nodes in
+            AreNeighbours self.old.params count count neighbours.now }
         ensures params { self.new.params ≡ self.old.params }
-        ensures nodes { self.new.nodes ≡ self.old.nodes ++ (record { pid = pid; tag = tag; vector = vector.now; links = neighbours.now; newer = 0 }) ∷ [] }
+        ensures nodes { self.new.nodes ≡ self.old.nodes ++ new_node pid tag vector.now neighbours.now ∷ [] }
         ensures spare { self.new.spare + 1 ≡ self.old.spare }
     {
         self.spare -= 1;
@@ -102,7 +104,8 @@ impl Table {
     pub fn set_kept(&mut self, row: u32, neighbours: &[u32])
         requires row { row < length self.old.nodes }
         requires neighbours { AreNeighbours self.old.params (length self.old.nodes) row neighbours.now }
-        requires settled { AreSettled (rule_of self.old.params) (apart_rows self.old.nodes) row (length self.old.nodes) neighbours.now }
+        requires settled { let rule = rule_of self.old.params in
+            AreSettled rule (apart_rows self.old.nodes) row (length self.old.nodes) neighbours.now }
         ensures params { self.new.params ≡ self.old.params }
         ensures nodes { self.new.nodes ≡ linked self.old.nodes row neighbours.now (length self.old.nodes) }
         ensures spare { self.new.spare ≡ self.old.spare }
@@ -117,11 +120,11 @@ impl Table {
         requires row { row < length self.old.nodes }
         requires inside { neighbour < length self.old.nodes }
         requires other { neighbour ≢ row }
-        requires above { All (λ other. other < neighbour) (node_at self.old.nodes row).links }
-        requires newer { (node_at self.old.nodes row).newer ≤ neighbour }
+        requires last { ComesLast neighbour (node_at self.old.nodes row) }
         requires few { length (node_at self.old.nodes row).links < self.old.params.r }
         ensures params { self.new.params ≡ self.old.params }
-        ensures nodes { self.new.nodes ≡ linked self.old.nodes row ((node_at self.old.nodes row).links ++ neighbour ∷ []) (node_at self.old.nodes row).newer }
+        ensures nodes { let node = node_at self.old.nodes row in
+            self.new.nodes ≡ linked self.old.nodes row (node.links ++ neighbour ∷ []) node.newer }
         ensures spare { self.new.spare ≡ self.old.spare }
     {
         self.links.append(row, neighbour);
@@ -160,7 +163,7 @@ impl Table {
 
     /// A table of its own that is equal to this one, without room for more rows. The only error is want of memory.
     pub fn copy(&self) -> Result<Table, AllocError>
-        ensures { IfOk result (λ copy. copy ≡ record { params = self.now.params; nodes = self.now.nodes; spare = 0 }) }
+        ensures { IfOk result (λ copy. copy ≡ record self.now { spare = 0 }) }
     {
         Ok(Table {
             params: self.params,
@@ -211,7 +214,7 @@ impl Graph for Table {
 }
 
 impl Metric for Table {
-    ghost use Rattle.ann_table.specs.Near.{distance_itself};
+    ghost use Rattle.ann_table.specs.Near.{distance_itself, distance_symmetric};
 
     ghost apart = { λ t. apart_rows t.nodes };
 
@@ -228,4 +231,6 @@ impl Metric for Table {
     }
 
     ghost near_itself = { λ t x. distance_itself (node_at t.nodes x).vector };
+
+    ghost symmetric = { λ t x y. distance_symmetric (node_at t.nodes x).vector (node_at t.nodes y).vector };
 }

@@ -76,7 +76,7 @@ impl Vectors {
 
     /// Vectors of their own that are equal to these, without room for more.
     pub(crate) fn copy(&self) -> Result<Vectors, AllocError>
-        ensures { IfOk result (λ copy. copy ≡ record { places = self.now.places; lists = self.now.lists; spare = 0 }) }
+        ensures { IfOk result (λ copy. copy ≡ record self.now { spare = 0 }) }
     {
         Ok(Vectors {
             width: self.width,

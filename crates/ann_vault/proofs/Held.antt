@@ -10,8 +10,9 @@ use Rattle.std.specs.Map.{lookup, keys_of}
 use Rattle.std.specs.BTreeMap.{is_at}
 use Rattle.std.specs.FinMap.{FinMap, get, insert, remove, keys, from_entries, from_sorted, find, is_sorted, get-from_entries, get-from_sorted, entries-from_sorted, get-insert, get-remove, same_map, nat_cmp-IsAntisymmetric}
 use Rattle.std.specs.FinMap.Entries.{below_all}
-use Rattle.ann_vault.specs.declared.memory.MemorySeal.{MemorySeal}
-use Rattle.ann_vault.specs.Memory.{seal_bytes, shown}
+use Rattle.ann_vault.specs.declared.shelf.MemorySeal.{MemorySeal}
+use Rattle.ann_vault.specs.Seal.{seal_bytes}
+use Rattle.ann_vault.specs.Shelf.{shown}
 
 abbrev Entries : Type 0
 Entries = List (ℕ × MemorySeal)

@@ -1,4 +1,8 @@
-pub mod Causes
-pub mod Calls
+pub mod Counted
+pub mod Drafts
+pub mod Held
+pub mod Seal
+pub mod Shelf
 pub mod Memory
 pub mod MemoryEye
+pub mod Reads

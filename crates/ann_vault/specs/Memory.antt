@@ -1,17 +1,14 @@
--- What a vault in memory holds.
-use Rattle.std.specs.Prelude.{ℕ, List, map}
+-- What a vault in memory holds, and which of its drafts are current.
+use Rattle.std.specs.Prelude.{◌≡◌, ℕ, ◌%◌, ◌==◌, List, Some, if◌then◌else◌}
 use Rattle.std.specs.Ordering.{nat_cmp}
-use Rattle.std.specs.FinMap.{FinMap, from_entries}
-use Rattle.ann_vault.specs.declared.calls.Calls.{Calls}
-use Rattle.ann_vault.specs.declared.memory.MemorySeal.{MemorySeal}
+use Rattle.std.specs.FinMap.{remove}
+use Rattle.std.specs.BTreeMap.{get}
+use Rattle.ann_fault.specs.Counts.{next_count}
+use Rattle.ann_fault.specs.declared.calls.Calls.{Calls}
+use Rattle.ann_vault.specs.Held.{Holding}
+use Rattle.ann_vault.specs.Shelf.{shelf_held}
 use Rattle.ann_vault.specs.declared.memory.MemoryDraft.{MemoryDraft}
 use Rattle.ann_vault.specs.declared.memory.MemoryVault.{MemoryVault}
-
-abbrev pub seal_number : MemorySeal → ℕ
-seal_number seal = seal.number
-
-abbrev pub seal_bytes : MemorySeal → List ℕ
-seal_bytes seal = seal.bytes.value.items
 
 abbrev pub draft_number : MemoryDraft → ℕ
 draft_number draft = draft.number
@@ -19,16 +16,24 @@ draft_number draft = draft.number
 abbrev pub draft_bytes : MemoryDraft → List ℕ
 draft_bytes draft = draft.bytes.items
 
--- a number, and the bytes of the seal that is kept for it
-abbrev pub shown : ℕ × MemorySeal → ℕ × List ℕ
-shown entry = (entry.0, seal_bytes entry.1)
+abbrev pub memory_held : MemoryVault → Holding
+memory_held vault = shelf_held vault.shelf
 
-abbrev pub memory_held : MemoryVault → FinMap nat_cmp (List ℕ)
-memory_held vault = from_entries (map shown vault.sealed.entries)
+-- the draft is the last that was begun of its number
+abbrev pub is_last : MemoryVault → MemoryDraft → Type 0
+is_last vault draft = get nat_cmp vault.begun draft.number ≡ Some draft.turn
 
 -- its calls, and those that fail
 abbrev pub vault_calls : MemoryVault → Calls
 vault_calls vault = vault.calls
 
 abbrev pub vault_faults : MemoryVault → ℕ
-vault_faults vault = vault.calls.faults
+vault_faults vault = vault.faults.count
+
+-- the next call has an even number
+abbrev pub IsEven : Calls → Type 0
+IsEven calls = next_count calls.made % 2 ≡ 0
+
+-- what a removal leaves that is made to fail: it is done where the call's number is even
+abbrev pub left_by_removal : Calls → ℕ → Holding → Holding
+left_by_removal calls number held = if next_count calls.made % 2 == 0 then remove held number else held

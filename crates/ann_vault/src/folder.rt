@@ -2,8 +2,8 @@
 ghost use Rattle.std.specs.Prelude.{◌≡◌, []};
 ghost use Rattle.std.specs.FinMap as map;
 
-use crate::faults::Faults;
 use crate::{Failed, NumbersRefused, Sealed, Vault};
+use ann_fault::Faults;
 use arrayvec::ArrayString;
 use std::alloc::AllocError;
 use std::fmt::Write as _;
@@ -179,6 +179,8 @@ impl<R: Files<File = File> + AllocGlobal + Clone + Drop> Vault for FolderVault<R
 
     ghost draft_bytes = { λ _. [] };
 
+    ghost is_current = { λ _ _. Unit {0} };
+
     ghost faults = { λ vault. vault.faults.count };
 
     fn create(&mut self, number: u64) -> Result<FolderDraft, Failed> {
@@ -211,7 +213,7 @@ impl<R: Files<File = File> + AllocGlobal + Clone + Drop> Vault for FolderVault<R
                 Err(NumbersRefused::Memory(AllocError))
             }
             Err(_) => {
-                self.faults.add();
+                let _ = self.faults.fail();
                 Err(NumbersRefused::Failed)
             }
         }

@@ -1,8 +1,8 @@
 // An eye over the current folder.
 ghost use Rattle.std.specs.Prelude.{◌≡◌};
 
-use crate::faults::Faults;
 use crate::{Eye, Failed, FolderSeal};
+use ann_fault::Faults;
 use std::fs::File;
 use std::io;
 use std::os::unix::fs::FileExt;

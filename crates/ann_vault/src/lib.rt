@@ -7,21 +7,21 @@
 //! stand on this crate.
 #![tactic(auto)]
 
-mod calls;
 mod eye;
-mod faults;
 mod folder;
 mod folder_eye;
 mod memory;
 mod memory_eye;
 mod sealed;
+mod shelf;
 mod vault;
 
-pub use calls::Failed;
+pub use ann_fault::Failed;
 pub use eye::Eye;
 pub use folder::{FolderDraft, FolderSeal, FolderVault};
 pub use folder_eye::FolderEye;
-pub use memory::{MemoryDraft, MemorySeal, MemoryVault};
+pub use memory::{MemoryDraft, MemoryVault};
 pub use memory_eye::MemoryEye;
 pub use sealed::Sealed;
+pub use shelf::MemorySeal;
 pub use vault::{NumbersRefused, Vault};

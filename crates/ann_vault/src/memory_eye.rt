@@ -1,30 +1,32 @@
 // An eye over a vault in memory.
 ghost use Rattle.std.specs.Prelude.{◌≡◌, ◌↔◌, ◌+◌, ◌≤◌, length, slice_range, OnOk, OnErr, IfOk, IsErr};
-ghost use Rattle.ann_vault.specs.Calls.{IsFresh, FailsNext, CountsCall};
-ghost use Rattle.ann_vault.specs.Causes.{HasCause, next_count};
-ghost use Rattle.ann_vault.specs.Memory.{seal_bytes};
+ghost use Rattle.ann_fault.specs.Calls.{IsFresh, FailsNext, CountsCall};
+ghost use Rattle.ann_fault.specs.Counts.{HasCause, next_count};
+ghost use Rattle.ann_vault.specs.Seal.{seal_bytes};
 
-use crate::calls::Calls;
 use crate::{Eye, Failed, MemorySeal};
+use ann_fault::{Calls, Faults};
 use std::alloc::{AllocError, Global};
 
 /// Reads the seals of vaults in memory. Its calls fail where the test that made it says so.
 #[derive(Drop)]
 pub struct MemoryEye {
     calls: Calls,
+    faults: Faults,
     reads: u64,
 }
 
 impl MemoryEye {
-    ghost use Rattle.ann_vault.specs.MemoryEye.{eye_calls, eye_reads};
+    ghost use Rattle.ann_vault.specs.MemoryEye.{eye_calls, eye_faults, eye_reads};
 
     /// An eye that has read nothing. The trait's calls with these numbers, from 1, fail.
     pub fn new(alloc: Global, failing: &[u64]) -> Result<MemoryEye, AllocError>
-        ensures unused { IfOk result (λ eye. eye_reads eye ≡ 0) }
+        ensures unused { IfOk result (λ eye. (eye_reads eye ≡ 0) × (eye_faults eye ≡ 0)) }
         ensures fresh { IfOk result (λ eye. IsFresh failing.now (eye_calls eye)) }
     {
         Ok(MemoryEye {
             calls: Calls::new(alloc, failing)?,
+            faults: Faults::none(),
             reads: 0,
         })
     }
@@ -47,7 +49,7 @@ impl Eye for MemoryEye {
         ensures cause { HasCause (eye_faults self.old) (eye_faults self.new) result }
     {
         if self.calls.begin() {
-            return Err(self.calls.fault());
+            return Err(self.faults.fail());
         }
         Ok(of.bytes().len() as u64)
     }
@@ -62,7 +64,7 @@ impl Eye for MemoryEye {
         ensures cause { HasCause (eye_faults self.old) (eye_faults self.new) result }
     {
         if self.calls.begin() {
-            return Err(self.calls.fault());
+            return Err(self.faults.fail());
         }
         let from = at as usize;
         buf.copy_from_slice(&of.bytes()[from..from + buf.len()]);

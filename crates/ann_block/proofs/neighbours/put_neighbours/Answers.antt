@@ -1,7 +1,7 @@
 use Rattle.std.proofs.Common.{◌≡◌, ℕ, ◌+◌, ◌*◌, List, length, take, get_or, sym, ap, ◌∙◌, arith, length-take}
 use Rattle.std.specs.List.{flat_map}
 use Rattle.ann_bytes.specs.LittleEndian.{bytes_of, with_field}
-use Rattle.ann_block.proofs.Fields.{with_field-next}
+use Rattle.ann_bytes.proofs.Joined.{with_field-next}
 use Rattle.ann_block.proofs.Listed.{length-numbers, numbers_more}
 use Rattle.ann_block.proofs.neighbours.put_neighbours.Goals as goal
 

@@ -1,6 +1,6 @@
 use Rattle.std.proofs.Common.{◌≡◌, ◌-◌}
-use Rattle.ann_greedy.specs.Rows.{far_row, ground_at}
-use Rattle.ann_greedy.specs.Shows.{AreFar, AreRows}
+use Rattle.ann_greedy.specs.Rows.{ground_at}
+use Rattle.ann_greedy.specs.Shows.{IsKept}
 use Rattle.ann_greedy.proofs.Pooling.{Pooling}
 use Rattle.ann_greedy.proofs.greedy.walk_noted.Given as goal
 
@@ -8,7 +8,5 @@ use Rattle.ann_greedy.proofs.greedy.walk_noted.Given as goal
 abbrev pub invariant-loop-turn : goal.invariant-loop-turn
 invariant-loop-turn g l = record {
   pooling : Pooling (ground_at (g.G.Graph.rows l.graph) l.query l.entry) l.fn.pool.limit (g.G.Graph.rows l.graph).count (l.turn-end - l.turn) l.visited.items l.pool;
-  far : AreFar (far_row (g.G.Graph.rows l.graph) l.query) l.pool.items;
-  rows : AreRows (g.G.Graph.rows l.graph).count l.pool.items;
-  limit : l.pool.limit ≡ l.fn.pool.limit;
+  kept : IsKept (g.G.Graph.rows l.graph) l.query l.fn.pool l.pool;
 }

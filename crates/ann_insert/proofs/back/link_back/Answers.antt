@@ -15,7 +15,7 @@ prune_newer-requires-clause-settled c =
     let apart : ℕ → ℕ → ℕ = apart_rows c.args.table.now.nodes in
     let links : List ℕ = (node_at c.args.table.now.nodes c.args.row).links in
     let rows : c.add_within.new.candidates.rows ≡ links ++ c.args.new ∷ [] =
-    c.add_within.ensures.rows ∙ ap (λ t. t ++ c.args.new ∷ []) (c.gather.ensures.rows ∙ ap (λ t. t ++ c.neighbours-2.result.now) c.requires.empty ∙ c.neighbours-2.ensures.links) in
+    c.add_within.ensures.rows ∙ ap (λ t. t ++ c.args.new ∷ []) (c.gather_warm.ensures.rows ∙ ap (λ t. t ++ c.neighbours-2.result.now) c.requires.empty ∙ c.neighbours-2.ensures.links) in
     subst (λ (ps : Params). AreSettled (rule_of ps) apart c.args.row c.newer.result c.add_within.new.candidates.rows) (sym c.params-2.ensures)
     (subst (λ n. AreSettled (rule_of c.args.table.now.params) apart c.args.row n c.add_within.new.candidates.rows) (sym c.newer.ensures)
     (subst (AreSettled (rule_of c.args.table.now.params) apart c.args.row (node_at c.args.table.now.nodes c.args.row).newer) (sym rows)
@@ -26,7 +26,7 @@ set_kept-requires-clause-neighbours c =
     let apart : ℕ → ℕ → ℕ = apart_rows c.args.table.now.nodes in
     let links : List ℕ = (node_at c.args.table.now.nodes c.args.row).links in
     let rows : c.add_within.new.candidates.rows ≡ links ++ c.args.new ∷ [] =
-    c.add_within.ensures.rows ∙ ap (λ t. t ++ c.args.new ∷ []) (c.gather.ensures.rows ∙ ap (λ t. t ++ c.neighbours-2.result.now) c.requires.empty ∙ c.neighbours-2.ensures.links) in
+    c.add_within.ensures.rows ∙ ap (λ t. t ++ c.args.new ∷ []) (c.gather_warm.ensures.rows ∙ ap (λ t. t ++ c.neighbours-2.result.now) c.requires.empty ∙ c.neighbours-2.ensures.links) in
     let is : c.deref.result.now ≡ kept (rule_of c.args.table.now.params) apart c.args.row (links ++ c.args.new ∷ []) =
     c.deref.ensures.0 ∙ c.prune_newer.ensures.kept
     ∙ ap (λ (ps : Params). kept (rule_of ps) apart c.args.row c.add_within.new.candidates.rows) c.params-2.ensures

@@ -1,7 +1,7 @@
 use Rattle.std.proofs.Common.{ap, ◌∙◌, arith}
 use Rattle.ann_bytes.specs.LittleEndian.{bytes_of, with_field}
 use Rattle.ann_preamble.specs.Written.{base_fields}
-use Rattle.ann_preamble.proofs.Joined.{laid_is}
+use Rattle.ann_bytes.proofs.Joined.{laid_is}
 use Rattle.ann_preamble.proofs.writing.put_base.Goals as goal
 
 pub returns : goal.returns

@@ -11,14 +11,15 @@ use Rattle.ann_prune.proofs.robust.keep_in_order.Goals as goal
 pub measure-requires-clause-rows : goal.measure-requires-clause-rows
 measure-requires-clause-rows g c = rows_inside (g.M.Metric.size c.args.metric.now) c.args.items.now c.requires.rows
 
-pub keep_each-requires-clause-rows : goal.keep_each-requires-clause-rows
-keep_each-requires-clause-rows g c =
+pub keep_each-requires-clause-candidates : goal.keep_each-requires-clause-candidates
+keep_each-requires-clause-candidates g c =
     let size : ℕ = g.M.Metric.size c.args.metric.now in
-    All-permutation (λ (x : Candidate). x.row < size) c.measure.new.items c.sort.new.items c.sort.ensures.same
-    (rows_inside size c.measure.new.items (subst (All (λ row. row < size)) (sym c.measure.ensures.rows) c.requires.rows))
-
-pub keep_each-requires-clause-far : goal.keep_each-requires-clause-far
-keep_each-requires-clause-far g c = All-permutation (IsMeasured (g.M.Metric.apart c.args.metric.now c.args.p)) c.measure.new.items c.sort.new.items c.sort.ensures.same c.measure.ensures.far
+    record {
+      rows =
+          All-permutation (λ (x : Candidate). x.row < size) c.measure.new.items c.sort.new.items c.sort.ensures.same
+          (rows_inside size c.measure.new.items (subst (All (λ row. row < size)) (sym c.measure.ensures.rows) c.requires.rows));
+      measured = All-permutation (IsMeasured (g.M.Metric.apart c.args.metric.now c.args.p)) c.measure.new.items c.sort.new.items c.sort.ensures.same c.measure.ensures.far;
+    }
 
 pub keep_each-requires-clause-settled : goal.keep_each-requires-clause-settled
 keep_each-requires-clause-settled g c =

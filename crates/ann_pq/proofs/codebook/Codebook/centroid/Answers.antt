@@ -1,10 +1,10 @@
 use Rattle.std.proofs.Common.{◌≡◌, ◌≤◌, ◌<◌, ◌+◌, ◌*◌, ◌-◌, ◌/◌, ℕ, take, drop, get_or, [], sym, ap, ◌∙◌, arith, refl}
 use Rattle.ann_pq.proofs.Places.{whole, centroid_ends}
-use Rattle.ann_pq.specs.Codebook.{Shown, AreSizes}
+use Rattle.ann_pq.specs.Codebook.{CodebookView, AreSizes}
 use Rattle.ann_pq.proofs.Books.{centroid_is}
 use Rattle.ann_pq.proofs.codebook.Codebook.centroid.Goals as goal
 
-at : (v : Shown) → AreSizes v.d v.m → (p n w : ℕ) → w ≡ v.d / v.m → p < v.m → n < 256 → (256 * p + n) * w + w ≤ 256 * v.d
+at : (v : CodebookView) → AreSizes v.d v.m → (p n w : ℕ) → w ≡ v.d / v.m → p < v.m → n < 256 → (256 * p + n) * w + w ≤ 256 * v.d
 at v sizes p n w wide l below =
     centroid_ends v.d v.m w (whole v.d v.m sizes.whole ∙ ap (λ k. v.m * k) (sym wide)) p n l below
 

@@ -21,5 +21,5 @@ returns-clause-within g c = λ tells.
     let below : c.from.result < c.self.inside.count = omega (arith, c.requires, rows, row) in
     let ends = block_within c.self.inside.count c.self.inside.m c.from.result c.directory_blocks.result c.directory_blocks.ensures.value below in
     let end : ℕ = 4096 * (1 + c.directory_blocks.result + c.from.result) + 4096 in
-    let long = ap (λ (s : SegmentView g.row.S.Denot). length (g.S.Sealed.bytes s.seal)) (sym c.self.view_is) ∙ c.self.invariant.3 tells in
+    let long = ap (λ (s : SegmentView g.row.S.Denot). length (g.S.Sealed.bytes s.seal)) (sym c.self.view_is) ∙ (c.self.invariant.3 tells).1 in
     subst (λ (n : ℕ). end ≤ n) (sym long) ends

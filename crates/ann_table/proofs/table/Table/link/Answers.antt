@@ -26,7 +26,7 @@ invariant_of-self c =
     let newer = (node_at c.args.self.now.nodes c.args.row).newer in (
       stored_set _ _ _ _ c.self.inside.vectors c.self.inside.links c.append.new.self c.args.row _ c.self.invariant.0 c.append.ensures.places c.append.ensures.lists c.append.ensures.spare,
       sound_linked c.self.inside.params c.self.inside.spare c.self.inside.labels.items c.self.inside.vectors c.self.inside.links c.args.self.now c.self.view_is (vec_len c.self.inside.labels) (vec_capacity c.self.inside.labels) c.self.inside.labels.ok.0 c.self.invariant.0 c.self.invariant.1 _ c.args.row (links ++ c.args.neighbour ∷ []) newer (returns-clause-nodes c) c.requires.row
-          (neighbours_push c.args.self.now.params (length c.args.self.now.nodes) c.args.row c.args.neighbour links sound.links c.requires.inside c.requires.other c.requires.above c.requires.few)
-          (settled_push (rule_of c.args.self.now.params) (apart_rows c.args.self.now.nodes) c.args.row newer links c.args.neighbour c.requires.newer sound.settled)
+          (neighbours_push c.args.self.now.params (length c.args.self.now.nodes) c.args.row c.args.neighbour links sound.links c.requires.inside c.requires.other c.requires.last.above c.requires.few)
+          (settled_push (rule_of c.args.self.now.params) (apart_rows c.args.self.now.nodes) c.args.row newer links c.args.neighbour c.requires.last.newer sound.settled)
           sound.newer,
     )

@@ -1,4 +1,5 @@
 use Rattle.std.proofs.Common.{sym, ◌∙◌, arith, vec_len, vec_capacity}
+use Rattle.std.proofs.lemmas.Bool.{false≢true}
 use Rattle.ann_table.proofs.Tables.{seen_count, first_is, some_from}
 use Rattle.ann_table.proofs.table.TableGraph.entry.Goals as goal
 
@@ -10,3 +11,9 @@ returns-else-is_empty-clause-inside c =
 
 pub returns-else-is_empty-clause-start : goal.returns-else-is_empty-clause-start
 returns-else-is_empty-clause-start c = first_is c.args.self.now.nodes (returns-else-is_empty-clause-inside c)
+
+pub returns-else-is_empty-clause-none : goal.returns-else-is_empty-clause-none
+returns-else-is_empty-clause-none c = (
+  λ e. absurd (false≢true (sym e)),
+  λ e. absurd (let some = returns-else-is_empty-clause-inside c in omega arith),
+)
