@@ -1,8 +1,8 @@
 -- Rounds by the rows of a segment are the rounds of the graph that it holds.
-use Rattle.std.proofs.Common.{◌≡◌, ℕ, zero, suc, ◌<◌, true, false, cond, not, List, [], ◌∷◌, ◌++◌, None, Some, ◌⊎◌, inl, inr, map, filter, length, get_or, refl, sym, ap, ap₂, subst, ◌∙◌, arith}
-use Rattle.std.specs.Prelude.{All, Option, Result, Ok, Err, IfErr}
+use Rattle.std.proofs.Common.{◌≡◌, ℕ, zero, suc, ◌<◌, true, false, cond, not, List, [], ◌∷◌, ◌++◌, None, Some, map, filter, length, get_or, refl, sym, ap, ap₂, subst, ◌∙◌, arith}
+use Rattle.std.specs.Prelude.{All, Option, Result, Ok, Err, OnOk, IfErr}
 use Rattle.ann_beam.specs.declared.refused.SearchRefused.{SearchRefused}
-use Rattle.ann_beam.specs.declared.refused.SearchRefused.TheVariants.{BadSegment, Disk}
+use Rattle.ann_beam.specs.declared.refused.SearchRefused.TheVariants.{Dimension, Disk, BadSegment, Shut}
 use Rattle.std.specs.Option.{option_map}
 use Rattle.std.specs.List.{AllByRecursion}
 use Rattle.std.proofs.lemmas.List.{get_or-map, length-map}
@@ -15,12 +15,14 @@ use Rattle.ann_types.specs.Graph.{Point, Graph, with_vector, pids_of, links_of, 
 use Rattle.ann_types.specs.Codes.{Book, code, decoded, decoded_points}
 use Rattle.ann_types.specs.Merge.{without}
 use Rattle.ann_types.specs.declared.params.Params.{Params}
+use Rattle.ann_types.proofs.Options.{none_some, some_is}
 use Rattle.ann_types.proofs.Sets.{Rises}
 use Rattle.ann_types.proofs.Graphs.{IsEntry, entry_from_graph}
 use Rattle.ann_types.proofs.Merges.{pids_decoded}
 use Rattle.ann_types.proofs.Coded.{HasWidth, IsCode, code_is_code, length_code}
 use Rattle.ann_types.proofs.Renamed.{Below, Renames, below_append, below_take, below_filter, below_near, rounds_map}
 use Rattle.ann_types.proofs.Rowed.{pid_at, pid_of_at, links_at, tag_at, far_at, renames_at}
+use Rattle.ann_pq.specs.Codebook.{Shown as BookShown}
 use Rattle.ann_pq.specs.Tables.{AreTablesOf, looked_up}
 use Rattle.ann_pq.proofs.Sums.{guided_is}
 use Rattle.ann_block.specs.Node.{NodeFields, judge_node}
@@ -30,9 +32,13 @@ use Rattle.ann_segment.specs.Text.{row_of}
 use Rattle.ann_segment.specs.Holds.{Holds}
 use Rattle.ann_segment.proofs.Holding.{IsRowOf, point_at, has_row, names_back, below_mapped, holds_linked, holds_count, holds_row}
 use Rattle.ann_beam.specs.Ranking.{Ranked, rank, with_all}
-use Rattle.ann_beam.specs.Reads.{more_reads}
-use Rattle.ann_beam.specs.Visits.{IsBadNode, alive, block_at, far_row, ground_in, links_in, node_in, point_in}
-use Rattle.ann_beam.specs.Progress.{Progress, HasVisited}
+use Rattle.ann_vault.specs.Reads.{more_reads}
+use Rattle.ann_beam.specs.Candidates.{far_row}
+use Rattle.ann_beam.specs.Visits.{IsBadNode, alive, block_at, links_in, node_in, point_in}
+use Rattle.ann_beam.specs.Quest.{Standing}
+use Rattle.ann_beam.specs.Progress.{Sight, Route, HasVisited, ground_at, sight_in}
+use Rattle.ann_beam.specs.Refusals.{HasGone, IsRefusedFor}
+use Rattle.ann_beam.specs.Found.{IsSearched, rows_from}
 
 -- ---- codes
 
@@ -87,15 +93,12 @@ alive_ranked dead far tag (p ∷ pids) = elim (has dead p) as (λ t. cond (not t
   | false ↦ ap (λ t. rank far tag p ∷ t) (alive_ranked dead far tag pids)
 ]
 
-some_is : (x y : ℕ) → Some x ≡ Some y → x ≡ y
-some_is x y e = cc
-
-none_some : (x : ℕ) → None ≡ Some x → ⊥
-none_some x e = cc
-
 -- ---- a segment that holds a graph
 
 module _ {S : Type 0} (params : Params) (book : Book) (bytes : List ℕ) (segment : SegmentView S) (graph : Graph) (h : Holds params book bytes segment graph) (parts : length book ≡ params.m) where
+  abbrev pub ground_by : List (List ℕ) → ℕ → Ground
+  ground_by tables entry = record { entry = entry; links = links_in segment bytes params.d; far = far_row tables segment.items }
+
   known : List Point
   known = decoded_points book graph.points
 
@@ -156,7 +159,7 @@ module _ {S : Type 0} (params : Params) (book : Book) (bytes : List ℕ) (segmen
         subst (λ (n : ℕ). Below n (links_in segment bytes params.d row)) (sym same_count)
         (subst (λ (n : NodeFields). Below (length graph.points) n.neighbours) (sym is.node) (below_mapped graph.points (point_at graph row).links rises is.links))
 
-    renames : (entry : ℕ) → entry < length graph.points → Renames (pid_at (decoded_points book graph.points)) (length (decoded_points book graph.points)) (ground_in segment bytes params.d tables entry) (ground (decoded_points book graph.points) query (pid_at (decoded_points book graph.points) entry))
+    renames : (entry : ℕ) → entry < length graph.points → Renames (pid_at (decoded_points book graph.points)) (length (decoded_points book graph.points)) (ground_by tables entry) (ground (decoded_points book graph.points) query (pid_at (decoded_points book graph.points) entry))
     renames entry below =
         renames_at (decoded_points book graph.points) query entry (links_in segment bytes params.d) (far_row tables segment.items) (subst Rises (sym same_pids) rises) (omega (arith, below, same_count)) same_links links_below same_far
 
@@ -168,11 +171,11 @@ module _ {S : Type 0} (params : Params) (book : Book) (bytes : List ℕ) (segmen
         (pid, refl, subst (λ (r : ℕ). r < length graph.points) (sym is) row.below, ap (pid_at graph.points) is ∙ row.back)
 
     -- The Pids that rounds visit are those of the rows that the beam visits.
-    same_rounds : (width w entry : ℕ) → segment.entry ≡ Some entry → (rounds book graph query width w ≡ map (pid_at graph.points) (rounds_of (ground_in segment bytes params.d tables entry) width w (length segment.items))) × Below (length graph.points) (rounds_of (ground_in segment bytes params.d tables entry) width w (length segment.items))
+    same_rounds : (width w entry : ℕ) → segment.entry ≡ Some entry → (rounds book graph query width w ≡ map (pid_at graph.points) (rounds_of (ground_by tables entry) width w (length segment.items))) × Below (length graph.points) (rounds_of (ground_by tables entry) width w (length segment.items))
     same_rounds width w entry begins =
         let got = entry_is entry graph.entry (entry_from_graph graph h.sound.sound) (sym begins ∙ h.entry) in
         let w' = renames entry got.2 in
-        let g : Ground = ground_in segment bytes params.d tables entry in
+        let g : Ground = ground_by tables entry in
         let pid : pid_at (decoded_points book graph.points) entry ≡ got.0 = ap (λ (xs : List ℕ). get_or xs entry 0) same_pids ∙ got.3 in
         let count = holds_count params book bytes segment graph h in (
           ap (rounds_from book graph.points query width w) got.1
@@ -184,20 +187,17 @@ module _ {S : Type 0} (params : Params) (book : Book) (bytes : List ℕ) (segmen
               (below_rounds (pid_at (decoded_points book graph.points)) (length (decoded_points book graph.points)) g (ground (decoded_points book graph.points) query (pid_at (decoded_points book graph.points) entry)) w' width w (length segment.items)),
         )
 
-    -- What was ranked is what the definition ranks.
-    pub found_is : (width w entry limit : ℕ) (dead : List ℕ) (old new : Progress) → segment.entry ≡ Some entry → HasVisited limit dead (point_in segment bytes params.d query) (rounds_of (ground_in segment bytes params.d tables entry) width w (length segment.items)) old new → new.points ≡ with_all limit (map (rank (far_from graph.points query) (tag_of graph.points)) (without dead (rounds book graph query width w))) old.points
-    found_is width w entry limit dead old new begins visits =
-        let same = same_rounds width w entry begins in
-        visits.ranked
-        ∙ ap (λ (xs : List Ranked). with_all limit xs old.points)
-        (ranked_rows query dead (rounds_of (ground_in segment bytes params.d tables entry) width w (length segment.items)) same.1
-        ∙ ap (λ (pids : List ℕ). map (rank (far_from graph.points query) (tag_of graph.points)) (without dead pids)) (sym same.0))
-
-    pub reads_are : (width w entry limit : ℕ) (dead : List ℕ) (old new : Progress) → segment.entry ≡ Some entry → HasVisited limit dead (point_in segment bytes params.d query) (rounds_of (ground_in segment bytes params.d tables entry) width w (length segment.items)) old new → new.reads ≡ more_reads (length (rounds book graph query width w)) old.reads
-    reads_are width w entry limit dead old new begins visits =
-        let rows : List ℕ = rounds_of (ground_in segment bytes params.d tables entry) width w (length segment.items) in
-        let same = same_rounds width w entry begins in
-        visits.reads ∙ ap (λ (n : ℕ). more_reads n old.reads) (sym (ap length same.0 ∙ length-map rows (pid_at graph.points)))
+    -- What was ranked is what the definition ranks, and each of the points was read once.
+    pub visits_graph : (dead : List ℕ) (width limit entry : ℕ) (old new : Standing) → segment.entry ≡ Some entry → HasVisited (sight_in (record { segment = segment; params = params; query = query; dead = dead }) bytes tables limit) (rounds_of (ground_by tables entry) width params.w (length segment.items)) old new → (new.result.points ≡ with_all limit (map (rank (far_from graph.points query) (tag_of graph.points)) (without dead (rounds book graph query width params.w))) old.result.points) × (new.reads ≡ more_reads (length (rounds book graph query width params.w)) old.reads)
+    visits_graph dead width limit entry old new begins visits =
+        let rows : List ℕ = rounds_of (ground_by tables entry) width params.w (length segment.items) in
+        let same = same_rounds width params.w entry begins in (
+          visits.ranked
+              ∙ ap (λ (xs : List Ranked). with_all limit xs old.result.points)
+              (ranked_rows query dead rows same.1
+              ∙ ap (λ (pids : List ℕ). map (rank (far_from graph.points query) (tag_of graph.points)) (without dead pids)) (sym same.0)),
+          visits.reads ∙ ap (λ (n : ℕ). more_reads n old.reads) (sym (ap length same.0 ∙ length-map rows (pid_at graph.points))),
+        )
 
   -- no block is bad
   pub none_bad : (page : List ℕ) (block : ℕ) → IsBadNode segment params page block → page ≡ block_at bytes block → ⊥
@@ -205,13 +205,41 @@ module _ {S : Type 0} (params : Params) (book : Book) (bytes : List ℕ) (segmen
       bad.refused (ap (λ (b : List ℕ). judge_node b (item_of segment.items bad.row).0 bad.row (length segment.items) params) (is ∙ ap (block_at bytes) bad.place) ∙ (holds_row params book bytes segment graph h parts bad.row bad.within).sound)
 
 -- a refusal isn't of a block where no block is bad
-pub only_disk : {T : Type 0} (r : Result T SearchRefused) (IsBad : ℕ → Type 0) → ((block : ℕ) → IsBad block → ⊥) → IfErr r (λ why. (why ≡ Disk) ⊎ ((block : ℕ) × (why ≡ BadSegment block))) → IfErr r (λ why. (block : ℕ) → why ≡ BadSegment block → IsBad block) → IfErr r (λ why. why ≡ Disk)
-only_disk (Ok x) IsBad none refused bad = tt
-only_disk (Err why) IsBad none refused bad = elim refused [
-  | inl disk ↦ disk
-  | inr block ↦ absurd (none block.0 (bad block.0 block.1))
-]
+pub only_disk : {S T : Type 0} (tells : Type 0) (bytes : S → List ℕ) (book : Book) (segment : SegmentView S) (params : Params) (graph : Graph) (old new : Standing) (r : Result T SearchRefused) → length book ≡ params.m → tells → Holds params book (bytes segment.seal) segment graph → IfErr r (IsRefusedFor tells bytes (Some segment) params old new) → IfErr r (λ why. why ≡ Disk)
+only_disk tells bytes book segment params graph old new (Ok x) parts told h refused = tt
+only_disk tells bytes book segment params graph old new (Err (Dimension got want)) parts told h refused = absurd refused
+only_disk tells bytes book segment params graph old new (Err Disk) parts told h refused = refl
+only_disk tells bytes book segment params graph old new (Err (BadSegment block)) parts told h refused = absurd (none_bad params book (bytes segment.seal) segment graph h parts new.page block refused.bad (refused.told told))
+only_disk tells bytes book segment params graph old new (Err Shut) parts told h refused = absurd refused
 
-pub both_bad : {T : Type 0} (r : Result T SearchRefused) (P Q : ℕ → Type 0) → IfErr r (λ why. (block : ℕ) → why ≡ BadSegment block → P block) → IfErr r (λ why. (block : ℕ) → why ≡ BadSegment block → Q block) → IfErr r (λ why. (block : ℕ) → why ≡ BadSegment block → P block × Q block)
-both_bad (Ok x) P Q p q = tt
-both_bad (Err why) P Q p q = λ block named. (p block named, q block named)
+-- ---- how a search ends
+
+-- the rows were visited from the entry
+pub searched_by : {S T : Type 0} (tells : Type 0) (bytes : S → List ℕ) (segment : SegmentView S) (params : Params) (book : BookShown) (dead query query' : List ℕ) (width width' entry : ℕ) (tables : List (List ℕ)) (old new : Standing) (result : Result T SearchRefused) → length book.book ≡ params.m → segment.entry ≡ Some entry → query' ≡ query → width' ≡ width → AreTablesOf book.book query' tables → length tables ≡ length book.book → HasGone tells bytes segment params old new result → (tells → OnOk result (HasVisited (sight_in (record { segment = segment; params = params; query = query'; dead = dead }) (bytes segment.seal) tables old.result.limit) (rounds_of (ground_at (sight_in (record { segment = segment; params = params; query = query'; dead = dead }) (bytes segment.seal) tables old.result.limit) entry) width' params.w (length segment.items)) old new)) → IsSearched tells bytes (record { segment = Some segment; params = params; book = book; dead = dead; query = query; width = width }) old new result
+searched_by {T = T} tells bytes segment params book dead query query' width width' entry tables old new (Err why) parts begins same wide are many gone visits = record {
+  found = tt;
+  refused = gone.refused;
+  sound = λ told graph h. only_disk {T = T} tells bytes book.book segment params graph old new (Err why) parts told h gone.refused;
+}
+searched_by {S = S} tells bytes segment params book dead query query' width width' entry tables old new (Ok x) parts begins same wide are many gone visits =
+    let route : List ℕ → Route S = λ (q : List ℕ). record { segment = segment; params = params; query = q; dead = dead } in
+    let sight : List ℕ → Sight = λ (q : List ℕ). sight_in (route q) (bytes segment.seal) tables old.result.limit in
+    let fill : AreTablesOf book.book query tables = subst (λ (q : List ℕ). AreTablesOf book.book q tables) same are in
+    let all : tells → HasVisited (sight query) (rounds_of (ground_at (sight query) entry) width params.w (length segment.items)) old new = λ told.
+    subst (λ (q : List ℕ). HasVisited (sight q) (rounds_of (ground_at (sight q) entry) width params.w (length segment.items)) old new) same
+    (subst (λ (n : ℕ). HasVisited (sight query') (rounds_of (ground_at (sight query') entry) n params.w (length segment.items)) old new) wide (visits told)) in
+    record {
+      found = record {
+        read = gone.read;
+        visited = λ told. record {
+          tables = tables;
+          guided = fill;
+          visits = subst (λ (o : Option ℕ). HasVisited (sight query) (rows_from (sight query) width params.w (length segment.items) o) old new) (sym begins) (all told);
+        };
+        held = λ told graph h.
+            let both = visits_graph params book.book (bytes segment.seal) segment graph h parts tables query fill many dead width old.result.limit entry old new begins (all told) in
+            record { points = both.0; reads = both.1 };
+      };
+      refused = tt;
+      sound = λ told graph h. tt;
+    }

@@ -1,5 +1,5 @@
 -- The first unmarked rows of a pool, one by one.
-use Rattle.std.proofs.Common.{◌≡◌, ℕ, zero, suc, ◌+◌, ◌<◌, Bool, true, false, cond, eqb, not, List, [], ◌∷◌, ◌++◌, ◌||◌, refl, sym, ap, ◌∙◌, subst, arith, take, filter, length, map, set, add-one, append_assoc, append-nil, inl, inr, eqb-true, eq-eqb}
+use Rattle.std.proofs.Common.{◌≡◌, ℕ, zero, suc, ◌+◌, ◌<◌, true, false, cond, eqb, not, List, [], ◌∷◌, ◌++◌, ◌||◌, refl, sym, ap, ◌∙◌, subst, arith, take, filter, length, map, set, add-one, append_assoc, append-nil, inl, inr, eqb-true, eq-eqb}
 use Rattle.std.specs.Prelude.{Some, None, find, All}
 use Rattle.std.specs.List.{AllByRecursion}
 use Rattle.std.proofs.lemmas.List.Elements.{recursion_from_All, All-from_recursion}
@@ -8,15 +8,13 @@ use Rattle.std.proofs.lemmas.Bool.{or_cases, or_right, both_ways, ne_eqb}
 use Rattle.ann_types.specs.Order.{before, has, in_order}
 use Rattle.ann_types.proofs.Ordered.{IsAfter, IsRising, before-irreflexive, rising_in_order, rising_take, has_from_take}
 use Rattle.ann_types.proofs.Walks.{find_has}
+use Rattle.ann_types.proofs.Booleans.{or_false}
+use Rattle.ann_types.proofs.Options.{none_some, some_is}
 use Rattle.ann_pool.specs.declared.item.Item.{Item}
-use Rattle.ann_pool.specs.Pool.{Shown, unvisited, marked}
+use Rattle.ann_pool.specs.Pool.{PoolView, unvisited, marked}
 use Rattle.ann_greedy.specs.Shows.{item, Shows}
-use Rattle.ann_greedy.proofs.Pooled.{has_push, find_item, marked_is, marked_none, none_some, some_is, some_map, none_map}
-use Rattle.ann_beam.specs.Visits.{Chooses}
-
-or_false : (a : Bool) → (a || false) ≡ a
-or_false true = refl
-or_false false = refl
+use Rattle.ann_greedy.proofs.Pooled.{has_push, find_item, marked_is, marked_none, some_map, none_map}
+use Rattle.ann_beam.specs.Candidates.{Chooses}
 
 -- the unmarked rows
 abbrev pub left_of : List ℕ → List ℕ → List ℕ
@@ -55,11 +53,11 @@ left_none v (y ∷ s) h =
     ] h
 
 -- some rows of a round were chosen, and so many may follow
-pub record Choosing (w left : ℕ) (rows : List ℕ) (old new : Shown) (far : ℕ → ℕ) (visited order : List ℕ) : Type 0 where
+pub record Choosing (w left : ℕ) (rows : List ℕ) (old new : PoolView) (far : ℕ → ℕ) (visited order : List ℕ) : Type 0 where
   pub rest : take w (left_of visited (take old.limit order)) ≡ rows ++ take left (left_of (visited ++ rows) (take old.limit order))
   pub shows : Shows far (visited ++ rows) order new
 
-pub choosing_none : (w left : ℕ) (rows : List ℕ) (old : Shown) (far : ℕ → ℕ) (visited order : List ℕ) → rows ≡ [] → left ≡ w → Shows far visited order old → Choosing w left rows old old far visited order
+pub choosing_none : (w left : ℕ) (rows : List ℕ) (old : PoolView) (far : ℕ → ℕ) (visited order : List ℕ) → rows ≡ [] → left ≡ w → Shows far visited order old → Choosing w left rows old old far visited order
 choosing_none w left rows old far visited order none all shows =
     let same : visited ≡ visited ++ rows = sym (append-nil visited) ∙ ap (λ t. visited ++ t) (sym none) in
     record {
@@ -71,8 +69,8 @@ choosing_none w left rows old far visited order none all shows =
     }
 
 -- A row is marked.
-shows_marked : (far : ℕ → ℕ) (visited order : List ℕ) (p : ℕ) (old new : Shown) → IsRising far order → Shows far visited order old → find (λ r. not (has visited r)) (take old.limit order) ≡ Some p → new.limit ≡ old.limit → new.items ≡ marked old.items → new.known ≡ old.known → Shows far (visited ++ p ∷ []) order new
-shows_marked far visited order p old new rising w is limit marks known =
+shows_marked : (far : ℕ → ℕ) (visited order : List ℕ) (p : ℕ) (old new : PoolView) → IsRising far order → Shows far visited order old → find (λ r. not (has visited r)) (take old.limit order) ≡ Some p → new.limit ≡ old.limit → new.items ≡ marked old.items → new.met ≡ old.met → Shows far (visited ++ p ∷ []) order new
+shows_marked far visited order p old new rising w is limit marks met =
     let nearest : List ℕ = take old.limit order in
     let there : has order p ≡ true = has_from_take old.limit p order (find_has (λ r. not (has visited r)) p nearest is) in
     record {
@@ -82,11 +80,11 @@ shows_marked far visited order p old new rising w is limit marks known =
         | inr e ↦ subst (λ (t : ℕ). has order t ≡ true) (sym (eqb-true z p e)) there
       ];
       items = marks ∙ ap marked w.items ∙ marked_is far visited p nearest (rising_take far old.limit order rising) is ∙ ap (λ n. map (item far (visited ++ p ∷ [])) (take n order)) (sym limit);
-      known = λ z h. w.known z (subst (λ (t : List ℕ). has t z ≡ true) known h);
+      met = λ z h. w.met z (subst (λ (t : List ℕ). has t z ≡ true) met h);
     }
 
 -- the row of the next unmarked item
-next_row : (far : ℕ → ℕ) (visited order : List ℕ) (x : Item) (pool : Shown) → Shows far visited order pool → Some x ≡ find unvisited pool.items → find (λ r. not (has visited r)) (take pool.limit order) ≡ Some x.number
+next_row : (far : ℕ → ℕ) (visited order : List ℕ) (x : Item) (pool : PoolView) → Shows far visited order pool → Some x ≡ find unvisited pool.items → find (λ r. not (has visited r)) (take pool.limit order) ≡ Some x.number
 next_row far visited order x pool w f =
     let nearest : List ℕ = take pool.limit order in
     let got = some_map (item far visited) (find (λ r. not (has visited r)) nearest) x (f ∙ ap (find unvisited) w.items ∙ find_item far visited nearest) in
@@ -95,8 +93,8 @@ next_row far visited order x pool w f =
 rising_from : (far : ℕ → ℕ) (order : List ℕ) → in_order far order ≡ order → IsRising far order
 rising_from far order e = subst (IsRising far) e (rising_in_order far order)
 
-pub choosing_more : (w left left' : ℕ) (rows rows' : List ℕ) (x : Item) (old middle new : Shown) (far : ℕ → ℕ) (visited order : List ℕ) → Choosing w left rows old middle far visited order → middle.limit ≡ old.limit → left ≡ suc left' → rows' ≡ rows ++ x.number ∷ [] → Some x ≡ find unvisited middle.items → new.limit ≡ middle.limit → new.items ≡ marked middle.items → new.known ≡ middle.known → Choosing w left' rows' old new far visited order
-choosing_more w left left' rows rows' x old middle new far visited order c same l more f limit marks known =
+pub choosing_more : (w left left' : ℕ) (rows rows' : List ℕ) (x : Item) (old middle new : PoolView) (far : ℕ → ℕ) (visited order : List ℕ) → Choosing w left rows old middle far visited order → middle.limit ≡ old.limit → left ≡ suc left' → rows' ≡ rows ++ x.number ∷ [] → Some x ≡ find unvisited middle.items → new.limit ≡ middle.limit → new.items ≡ marked middle.items → new.met ≡ middle.met → Choosing w left' rows' old new far visited order
+choosing_more w left left' rows rows' x old middle new far visited order c same l more f limit marks met =
     let p : ℕ = x.number in
     let nearest : List ℕ = take old.limit order in
     let rising = rising_from far order c.shows.rising in
@@ -111,7 +109,7 @@ choosing_more w left left' rows rows' x old middle new far visited order c same 
           ∙ sym (append_assoc rows (p ∷ []) (take left' (left_of ((visited ++ rows) ++ p ∷ []) nearest)))
           ∙ ap (λ (t : List ℕ). t ++ take left' (left_of ((visited ++ rows) ++ p ∷ []) nearest)) (sym more)
           ∙ ap (λ (v : List ℕ). rows' ++ take left' (left_of v nearest)) join;
-      shows = subst (λ (v : List ℕ). Shows far v order new) join (shows_marked far (visited ++ rows) order p middle new rising c.shows is limit marks known);
+      shows = subst (λ (v : List ℕ). Shows far v order new) join (shows_marked far (visited ++ rows) order p middle new rising c.shows is limit marks met);
     }
 
 take_none : (n : ℕ) → take {A = ℕ} n [] ≡ []
@@ -119,8 +117,8 @@ take_none zero = refl
 take_none (suc n) = refl
 
 -- no row is left
-pub chosen_all : (w left : ℕ) (rows : List ℕ) (old middle new : Shown) (far : ℕ → ℕ) (visited order : List ℕ) → Choosing w left rows old middle far visited order → middle.limit ≡ old.limit → None ≡ find unvisited middle.items → new.limit ≡ middle.limit → new.items ≡ marked middle.items → new.known ≡ middle.known → Chooses w rows old new far visited order
-chosen_all w left rows old middle new far visited order c same none limit marks known =
+pub chosen_all : (w left : ℕ) (rows : List ℕ) (old middle new : PoolView) (far : ℕ → ℕ) (visited order : List ℕ) → Choosing w left rows old middle far visited order → middle.limit ≡ old.limit → None ≡ find unvisited middle.items → new.limit ≡ middle.limit → new.items ≡ marked middle.items → new.met ≡ middle.met → Chooses w rows old new far visited order
+chosen_all w left rows old middle new far visited order c same none limit marks met =
     let nearest : List ℕ = take middle.limit order in
     let over : find (λ r. not (has (visited ++ rows) r)) nearest ≡ None = none_map (item far (visited ++ rows)) (find (λ r. not (has (visited ++ rows) r)) nearest) (none ∙ ap (find unvisited) c.shows.items ∙ find_item far (visited ++ rows) nearest) in
     let empty : left_of (visited ++ rows) (take old.limit order) ≡ [] = ap (λ (n : ℕ). left_of (visited ++ rows) (take n order)) (sym same) ∙ left_none (visited ++ rows) nearest over in
@@ -130,12 +128,12 @@ chosen_all w left rows old middle new far visited order c same none limit marks 
         rising = c.shows.rising;
         marks = c.shows.marks;
         items = marks ∙ marked_none middle.items (sym none) ∙ c.shows.items ∙ ap (λ (n : ℕ). map (item far (visited ++ rows)) (take n order)) (sym limit);
-        known = λ z h. c.shows.known z (subst (λ (t : List ℕ). has t z ≡ true) known h);
+        met = λ z h. c.shows.met z (subst (λ (t : List ℕ). has t z ≡ true) met h);
       };
     }
 
 -- the round is full
-pub chosen_full : (w left : ℕ) (rows : List ℕ) (old new : Shown) (far : ℕ → ℕ) (visited order : List ℕ) → left ≡ 0 → Choosing w left rows old new far visited order → Chooses w rows old new far visited order
+pub chosen_full : (w left : ℕ) (rows : List ℕ) (old new : PoolView) (far : ℕ → ℕ) (visited order : List ℕ) → left ≡ 0 → Choosing w left rows old new far visited order → Chooses w rows old new far visited order
 chosen_full w left rows old new far visited order none c = record {
   first = sym (c.rest ∙ ap (λ (n : ℕ). rows ++ take n (left_of (visited ++ rows) (take old.limit order))) none ∙ append-nil rows);
   shows = c.shows;

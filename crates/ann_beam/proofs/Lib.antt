@@ -1,4 +1,6 @@
 pub mod Rankings
 pub mod Choosing
+pub mod Readings
 pub mod Rounding
 pub mod Beams
+pub mod Searches

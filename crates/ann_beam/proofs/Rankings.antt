@@ -1,17 +1,19 @@
 -- Pids and hits side by side, and the place of a point among them.
-use Rattle.std.proofs.Common.{◌≡◌, ℕ, zero, suc, ◌≤◌, ◌<◌, ◌+◌, Bool, true, false, cond, eqb, List, [], ◌∷◌, ◌++◌, ◌||◌, refl, sym, ap, ◌∙◌, subst, arith, take, map, length, get_or, inl, inr, eqb-true, eq-eqb}
+use Rattle.std.proofs.Common.{◌≡◌, ℕ, zero, suc, ◌≤◌, ◌<◌, ◌+◌, true, false, cond, eqb, List, [], ◌∷◌, ◌++◌, ◌||◌, refl, sym, ap, ◌∙◌, subst, arith, take, map, length, get_or, inl, inr, ltb, ltb-false, eqb-true, eq-eqb}
 use Rattle.std.specs.Prelude.{insert}
 use Rattle.std.specs.List.{AllByRecursion, IsDistinct}
 use Rattle.std.proofs.lemmas.Map.Keys.{IsDistinct-head, IsDistinct-tail}
 use Rattle.std.proofs.lemmas.List.{take-map, take_all}
 use Rattle.std.proofs.lemmas.Bool.{false≢true, or_from, ne_eqb, both_ways, false_from_ne_true}
+use Rattle.ann_types.proofs.Booleans.{neither, eqb_sym}
+use Rattle.ann_types.proofs.Each.{all_take}
 use Rattle.ann_types.specs.declared.hit.Hit.{Hit}
 use Rattle.ann_types.specs.Order.{before, has, placed, all_placed, in_order, top}
 use Rattle.ann_types.proofs.Ordered.{has_here, has_later, has_cases, cut_placed, all_placed-append, has_placed, has_in_order, has_from_take}
 use Rattle.ann_pool.specs.declared.item.Item.{Item}
 use Rattle.ann_pool.proofs.Orders.{Precedes, before_tells, before_from, before-asymmetric}
 use Rattle.ann_dead.specs.Pids.{has as is_dead}
-use Rattle.ann_beam.specs.Ranking.{IsRanked, Ranked, hit_of, joined, nearer, rank, ranked, with_all, with_ranked}
+use Rattle.ann_beam.specs.Ranking.{IsBeyond, IsRanked, Ranked, hit_of, joined, nearer, rank, ranked, with_all, with_ranked}
 
 pub length-joined : (pids : List ℕ) (hits : List Hit) → length pids ≡ length hits → length (joined pids hits) ≡ length hits
 length-joined [] [] e = refl
@@ -81,15 +83,10 @@ order_ranked x (y ∷ s) (a, r) = elim (nearer x y) as (λ t. nearer x y ≡ t �
   | false ↦ λ h. (none_before_ranked y x s h a, order_ranked x s r)
 ] refl
 
-all_take : (y : Ranked) (n : ℕ) (s : List Ranked) → AllByRecursion (λ z. nearer z y ≡ false) s → AllByRecursion (λ z. nearer z y ≡ false) (take n s)
-all_take y zero s a = tt
-all_take y (suc n) [] a = tt
-all_take y (suc n) (z ∷ s) (h, a) = (h, all_take y n s a)
-
 order_take : (n : ℕ) (s : List Ranked) → IsRanked s → IsRanked (take n s)
 order_take zero s r = tt
 order_take (suc n) [] r = tt
-order_take (suc n) (x ∷ s) (a, r) = (all_take x n s a, order_take n s r)
+order_take (suc n) (x ∷ s) (a, r) = (all_take (λ z. nearer z x ≡ false) n s a, order_take n s r)
 
 all_at : (y : Ranked) (s : List Ranked) (i : ℕ) (d : Ranked) → AllByRecursion (λ z. nearer z y ≡ false) s → i < length s → nearer (get_or s i d) y ≡ false
 all_at y [] i d a l = absurd (omega arith)
@@ -153,6 +150,42 @@ beyond_joined n x h pids hits last e r full is at near =
     ∙ ap (λ m. take m (insert (joined pids hits) m x)) (sym size)
     ∙ insert_last (joined pids hits) x
 
+-- the last of some points is the farthest
+all_within : (far : ℕ) (s : List Ranked) (last : ℕ) (d : Ranked) → IsRanked s → length s ≡ last + 1 → (get_or s last d).distance < far → AllByRecursion (λ x. x.distance < far) s
+all_within far [] last d r size l = tt
+all_within far (x ∷ []) zero d r size l = (l, tt)
+all_within far (x ∷ []) (suc last) d r size l = absurd (omega arith)
+all_within far (x ∷ y ∷ s) zero d r size l = absurd (omega arith)
+all_within far (x ∷ y ∷ s) (suc last) d (a, r) size l =
+    let rest : AllByRecursion (λ z. z.distance < far) (y ∷ s) = all_within far (y ∷ s) last d r (omega arith) l in
+    let behind : x.distance ≤ y.distance = ltb-false y.distance x.distance (neither (ltb y.distance x.distance) _ a.0).0 in
+    let near : y.distance < far = rest.0 in
+    (omega arith, rest)
+
+far_at : (far : ℕ) (s : List Ranked) (i : ℕ) (d : Ranked) → AllByRecursion (λ x. x.distance < far) s → i < length s → (get_or s i d).distance < far
+far_at far [] i d a l = absurd (omega arith)
+far_at far (x ∷ s) zero d (h, a) l = h
+far_at far (x ∷ s) (suc i) d (h, a) l = far_at far s i d a (omega arith)
+
+-- So all are nearer where the last one is.
+pub beyond_last : (n far : ℕ) (h : Hit) (pids : List ℕ) (hits : List Hit) (last : ℕ) → length pids ≡ length hits → IsRanked (joined pids hits) → length hits ≡ n → n ≡ last + 1 → h ≡ get_or hits last h → h.distance < far → IsBeyond far (record { limit = n; points = joined pids hits })
+beyond_last n far h pids hits last e r full is at near =
+    let size = length-joined pids hits e in
+    let d : Ranked = at_place pids hits last in
+    let here : get_or (joined pids hits) last d ≡ record { pid = get_or pids last 0; tag = (get_or hits last h).tag; distance = (get_or hits last h).distance } = joined_at last 0 d h pids hits e (omega arith) in
+    record {
+      full = size ∙ full;
+      all = all_within far (joined pids hits) last d r (omega arith) (subst (λ (x : Ranked). x.distance < far) (sym here) (subst (λ (g : Hit). g.distance < far) at near));
+    }
+
+pub last_beyond : (n far : ℕ) (h : Hit) (pids : List ℕ) (hits : List Hit) (last : ℕ) → length pids ≡ length hits → n ≡ last + 1 → h ≡ get_or hits last h → IsBeyond far (record { limit = n; points = joined pids hits }) → h.distance < far
+last_beyond n far h pids hits last e is at beyond =
+    let size = length-joined pids hits e in
+    let full = beyond.full in
+    let d : Ranked = at_place pids hits last in
+    let here : get_or (joined pids hits) last d ≡ record { pid = get_or pids last 0; tag = (get_or hits last h).tag; distance = (get_or hits last h).distance } = joined_at last 0 d h pids hits e (omega arith) in
+    subst (λ (g : Hit). g.distance < far) (sym at) (subst (λ (x : Ranked). x.distance < far) here (far_at far (joined pids hits) last d beyond.all (omega arith)))
+
 -- both lists with a point inserted and cut
 pub added : (n i p : ℕ) (h : Hit) (pids : List ℕ) (hits : List Hit) → length pids ≡ length hits → i ≤ length hits → ranked (record { pid = p; tag = h.tag; distance = h.distance }) (joined pids hits) ≡ insert (joined pids hits) i (record { pid = p; tag = h.tag; distance = h.distance }) → joined (take n (insert pids i p)) (take n (insert hits i h)) ≡ with_ranked n (record { pid = p; tag = h.tag; distance = h.distance }) (joined pids hits)
 added n i p h pids hits e l place = sym (take_joined n (insert pids i p) (insert hits i h)) ∙ ap (take n) (sym (place ∙ insert_joined i p h pids hits e l))
@@ -167,15 +200,11 @@ order_joined n i p h pids hits e l place r =
 ranked_placed : (far tag : ℕ → ℕ) (p : ℕ) (s : List ℕ) → has s p ≡ false → ranked (rank far tag p) (map (rank far tag) s) ≡ map (rank far tag) (placed far p s)
 ranked_placed far tag p [] h = refl
 ranked_placed far tag p (q ∷ s) h =
-    let other = or_false_left (eqb p q) (has s p) h in
+    let other = neither (eqb p q) (has s p) h in
     elim (before far p q) as (λ t. cond t (rank far tag p ∷ rank far tag q ∷ map (rank far tag) s) (rank far tag q ∷ ranked (rank far tag p) (map (rank far tag) s)) ≡ map (rank far tag) (cond t (p ∷ q ∷ s) (cond (eqb p q) (q ∷ s) (q ∷ placed far p s)))) [
       | true ↦ refl
       | false ↦ ap (λ t. rank far tag q ∷ t) (ranked_placed far tag p s other.1) ∙ ap (λ t. map (rank far tag) (cond t (q ∷ s) (q ∷ placed far p s))) (sym other.0)
     ]
-  where
-    or_false_left : (a b : Bool) → (a || b) ≡ false → (a ≡ false) × (b ≡ false)
-    or_false_left true b h = absurd (false≢true (sym h))
-    or_false_left false b h = (refl, h)
 
 not_taken : (n p : ℕ) (s : List ℕ) → has s p ≡ false → has (take n s) p ≡ false
 not_taken n p s h = false_from_ne_true (has (take n s) p) (λ k. false≢true (sym h ∙ has_from_take n p s k))
@@ -232,10 +261,4 @@ with_all-append n (x ∷ xs) ys s = with_all-append n xs ys (with_ranked n x s)
 -- a Pid of a delete list, as that list and as a set of points
 pub dead_has : (dead : List ℕ) (pid : ℕ) → is_dead dead pid ≡ has dead pid
 dead_has [] pid = refl
-dead_has (x ∷ dead) pid = ap (λ t. t || is_dead dead pid) (turned x pid) ∙ ap (λ t. eqb pid x || t) (dead_has dead pid)
-  where
-    turned : (x y : ℕ) → eqb x y ≡ eqb y x
-    turned x y = elim (eqb x y) as (λ t. eqb x y ≡ t → t ≡ eqb y x) [
-      | true ↦ λ e. sym (eq-eqb y x (sym (eqb-true x y e)))
-      | false ↦ λ e. sym (ne_eqb y x (λ s. both_ways (eqb x y) e (eq-eqb x y (sym s))))
-    ] refl
+dead_has (x ∷ dead) pid = ap (λ t. t || is_dead dead pid) (eqb_sym x pid) ∙ ap (λ t. eqb pid x || t) (dead_has dead pid)

@@ -1,5 +1,9 @@
 pub mod Ranking
-pub mod Reads
+pub mod Quest
 pub mod Visits
 pub mod Progress
 pub mod Desk
+pub mod Course
+pub mod Candidates
+pub mod Refusals
+pub mod Found

@@ -1,5 +1,5 @@
 -- The points that a search has found so far, the nearest first.
-use Rattle.std.specs.Prelude.{◌≡◌, ℕ, Bool, false, List, [], ◌∷◌, ◌||◌, ◌&&◌, ◌==◌, nat_lt, take, if◌then◌else◌}
+use Rattle.std.specs.Prelude.{◌≡◌, ◌<◌, ℕ, Bool, false, List, [], ◌∷◌, ◌||◌, ◌&&◌, ◌==◌, nat_lt, length, take, insert, if◌then◌else◌}
 use Rattle.std.specs.List.{AllByRecursion}
 use Rattle.ann_types.specs.declared.hit.Hit.{Hit}
 
@@ -10,7 +10,7 @@ pub record Ranked : Type 0 where
   pub distance : ℕ
 
 -- how many points there may be, and the points
-pub record Shown : Type 0 where
+pub record RankingView : Type 0 where
   pub limit : ℕ
   pub points : List Ranked
 
@@ -28,6 +28,10 @@ abbrev pub ranked : Ranked → List Ranked → List Ranked
 ranked x [] = x ∷ []
 ranked x (y ∷ ys) = if nearer x y then x ∷ y ∷ ys else y ∷ ranked x ys
 
+-- its place among the points
+abbrev pub IsPlaceOf : Ranked → List Ranked → ℕ → Type 0
+IsPlaceOf x xs place = ranked x xs ≡ insert xs place x
+
 -- the least of the points and x, up to a limit
 abbrev pub with_ranked : ℕ → Ranked → List Ranked → List Ranked
 with_ranked limit x xs = take limit (ranked x xs)
@@ -36,6 +40,16 @@ with_ranked limit x xs = take limit (ranked x xs)
 abbrev pub with_all : ℕ → List Ranked → List Ranked → List Ranked
 with_all limit [] xs = xs
 with_all limit (x ∷ more) xs = with_all limit more (with_ranked limit x xs)
+
+-- there are as many points as there may be, and all are nearer than this
+pub record IsBeyond (distance : ℕ) (ranking : RankingView) : Type 0 where
+  pub full : length ranking.points ≡ ranking.limit
+  pub all : AllByRecursion (λ x. x.distance < distance) ranking.points
+
+-- so a point this far away changes nothing
+abbrev pub StaysAt : ℕ → RankingView → Type 0
+StaysAt distance ranking =
+    (pid tag : ℕ) → with_ranked ranking.limit (record { pid = pid; tag = tag; distance = distance }) ranking.points ≡ ranking.points
 
 -- what is told of a point
 abbrev pub hit_of : Ranked → Hit

@@ -1,37 +1,29 @@
--- What a beam sees of the rows of a segment, and what visits leave.
-use Rattle.std.specs.Prelude.{◌≡◌, ◌≢◌, ℕ, ◌+◌, ◌*◌, ◌<◌, not, List, ◌++◌, None, filter, take, length, slice_range}
+-- What a beam sees of the rows of a segment.
+use Rattle.std.specs.Prelude.{◌≡◌, ◌≢◌, ℕ, ◌+◌, ◌*◌, ◌<◌, not, List, Option, None, filter, length, slice_range}
 use Rattle.ann_types.specs.Distance.{distance}
 use Rattle.ann_types.specs.Order.{has}
-use Rattle.ann_types.specs.Walk.{Ground}
 use Rattle.ann_types.specs.declared.params.Params.{Params}
-use Rattle.ann_pool.specs.Pool.{Shown as PoolShown}
-use Rattle.ann_greedy.specs.Shows.{Shows}
-use Rattle.ann_pq.specs.Tables.{looked_up}
 use Rattle.ann_block.specs.Node.{NodeFields, node_of, judge_node}
+use Rattle.ann_block.specs.declared.refused.BlockRefused.{BlockRefused}
 use Rattle.ann_segment.specs.Directory.{Item, item_of}
 use Rattle.ann_segment.specs.Segment.{SegmentView, node_block}
 use Rattle.ann_beam.specs.Ranking.{Ranked}
-
--- how far a row is by its code and the tables of a query
-abbrev pub far_row : List (List ℕ) → List Item → ℕ → ℕ
-far_row tables items row = looked_up tables (item_of items row).1
 
 -- a block of some bytes
 abbrev pub block_at : List ℕ → ℕ → List ℕ
 block_at bytes block = slice_range bytes (4096 * block) (4096 * block + 4096)
 
+-- the block of a row of a segment with these bytes
+abbrev pub row_block : {S : Type 0} → SegmentView S → List ℕ → ℕ → List ℕ
+row_block segment bytes row = block_at bytes (node_block segment row)
+
 -- the node in a row of a segment with these bytes, for vectors of d components
 abbrev pub node_in : {S : Type 0} → SegmentView S → List ℕ → ℕ → ℕ → NodeFields
-node_in segment bytes d row = node_of d (block_at bytes (node_block segment row))
+node_in segment bytes d row = node_of d (row_block segment bytes row)
 
 -- the neighbours of a row of a segment with these bytes
 abbrev pub links_in : {S : Type 0} → SegmentView S → List ℕ → ℕ → ℕ → List ℕ
 links_in segment bytes d row = (node_in segment bytes d row).neighbours
-
--- what rounds see of a segment with these bytes, from a row
-abbrev pub ground_in : {S : Type 0} → SegmentView S → List ℕ → ℕ → List (List ℕ) → ℕ → Ground
-ground_in segment bytes d tables entry =
-    record { entry = entry; links = links_in segment bytes d; far = far_row tables segment.items }
 
 -- a row's point at its exact distance
 abbrev pub point_of : List Item → List ℕ → ℕ → NodeFields → Ranked
@@ -45,14 +37,13 @@ point_in segment bytes d query row = point_of segment.items query row (node_in s
 abbrev pub alive : List ℕ → List Ranked → List Ranked
 alive dead points = filter (λ x. not (has dead x.pid)) points
 
+-- why a page isn't the node block of a row; none where it is
+abbrev pub judged : {S : Type 0} → SegmentView S → Params → List ℕ → ℕ → Option BlockRefused
+judged segment params page row = judge_node page (item_of segment.items row).0 row (length segment.items) params
+
 -- a page isn't the node block of the row that has this block
 pub record IsBadNode {S : Type 0} (segment : SegmentView S) (params : Params) (page : List ℕ) (block : ℕ) : Type 0 where
   pub row : ℕ
   pub within : row < length segment.items
   pub place : block ≡ node_block segment row
-  pub refused : judge_node page (item_of segment.items row).0 row (length segment.items) params ≢ None
-
--- the rows chosen for a round of this width: the first of those that the pool shows and that aren't marked yet
-pub record Chooses (w : ℕ) (rows : List ℕ) (old new : PoolShown) (far : ℕ → ℕ) (visited order : List ℕ) : Type 0 where
-  pub first : rows ≡ take w (filter (λ row. not (has visited row)) (take old.limit order))
-  pub shows : Shows far (visited ++ rows) order new
+  pub refused : judged segment params page row ≢ None

@@ -1,7 +1,5 @@
-ghost use Rattle.std.specs.Prelude.{◌≡◌, ◌≤◌, ◌<◌, ℕ, List, All, length, take};
-ghost use Rattle.ann_types.specs.Order.{placed, all_placed};
-ghost use Rattle.ann_greedy.specs.Shows.{AreFar, AreRows, Shows};
-ghost use Rattle.ann_beam.specs.Visits.{Chooses, far_row};
+ghost use Rattle.std.specs.Prelude.{◌≡◌, ◌≤◌, ◌<◌, ◌∷◌, [], All, length, take};
+ghost use Rattle.ann_beam.specs.Candidates.{AreCandidates, HasMet, HasChosen};
 
 use ann_block::Node;
 use ann_pool::Pool;
@@ -9,18 +7,14 @@ use ann_pq::Tables;
 use ann_segment::Segment;
 use ann_vault::Sealed;
 
-/// Offers a row at its guided distance, unless the pool knows that it was offered before.
+/// Offers a row at its guided distance, unless the pool knows that it was met before.
 pub(crate) fn offer<S: Sealed>(segment: &Segment<S>, tables: &Tables, guided: &mut Pool, row: u32)
     requires row { row < length segment.now.items }
     requires code { segment.now.m ≡ length tables.now }
-    requires far { AreFar (far_row tables.now segment.now.items) guided.old.items }
-    requires rows { AreRows (length segment.now.items) guided.old.items }
-    ensures limit { guided.new.limit ≡ guided.old.limit }
-    ensures far { AreFar (far_row tables.now segment.now.items) guided.new.items }
-    ensures rows { AreRows (length segment.now.items) guided.new.items }
-    ensures shows { (visited order : List ℕ) → Shows (far_row tables.now segment.now.items) visited order guided.old → Shows (far_row tables.now segment.now.items) visited (placed (far_row tables.now segment.now.items) row order) guided.new }
+    requires candidates { AreCandidates tables.now segment.now.items guided.old }
+    ensures { HasMet tables.now segment.now.items (row ∷ []) guided.old guided.new }
 {
-    if guided.knows(row) {
+    if guided.has_met(row) {
         return;
     }
     guided.offer(tables.distance(segment.code(row)), row);
@@ -30,12 +24,8 @@ pub(crate) fn offer<S: Sealed>(segment: &Segment<S>, tables: &Tables, guided: &m
 pub(crate) fn meet<S: Sealed>(segment: &Segment<S>, tables: &Tables, guided: &mut Pool, node: &Node)
     requires inside { All (λ row. row < length segment.now.items) node.now.neighbours }
     requires code { segment.now.m ≡ length tables.now }
-    requires far { AreFar (far_row tables.now segment.now.items) guided.old.items }
-    requires rows { AreRows (length segment.now.items) guided.old.items }
-    ensures limit { guided.new.limit ≡ guided.old.limit }
-    ensures far { AreFar (far_row tables.now segment.now.items) guided.new.items }
-    ensures rows { AreRows (length segment.now.items) guided.new.items }
-    ensures shows { (visited order : List ℕ) → Shows (far_row tables.now segment.now.items) visited order guided.old → Shows (far_row tables.now segment.now.items) visited (all_placed (far_row tables.now segment.now.items) order node.now.neighbours) guided.new }
+    requires candidates { AreCandidates tables.now segment.now.items guided.old }
+    ensures { HasMet tables.now segment.now.items node.now.neighbours guided.old guided.new }
 {
     for i in 0..node.degree() {
         offer(segment, tables, guided, node.neighbour(i));
@@ -48,11 +38,7 @@ pub(crate) fn choose(guided: &mut Pool, w: usize, rows: &mut [u32]) -> usize
     requires room { w ≤ length rows.old }
     ensures size { length rows.new ≡ length rows.old }
     ensures few { (result ≤ w) × (result ≤ length rows.new) }
-    ensures limit { guided.new.limit ≡ guided.old.limit }
-    ensures far { (far : ℕ → ℕ) → AreFar far guided.old.items → AreFar far guided.new.items }
-    ensures rows { (count : ℕ) → AreRows count guided.old.items → AreRows count guided.new.items }
-    ensures inside { (count : ℕ) → AreRows count guided.old.items → All (λ row. row < count) (take result rows.new) }
-    ensures chosen { (far : ℕ → ℕ) (visited order : List ℕ) → Shows far visited order guided.old → Chooses w (take result rows.new) guided.old guided.new far visited order }
+    ensures chosen { HasChosen w (take result rows.new) guided.old guided.new }
 {
     let mut count = 0;
     while count < w {

@@ -1,5 +1,5 @@
-ghost use Rattle.std.specs.Prelude.{◌≡◌, ◌≤◌, [], ℕ, true, length, map, IfOk};
-ghost use Rattle.ann_beam.specs.Ranking.{hit_of, with_ranked};
+ghost use Rattle.std.specs.Prelude.{◌≡◌, ◌≤◌, ◌↔◌, [], IsTrue, length, map, IfOk};
+ghost use Rattle.ann_beam.specs.Ranking.{IsBeyond, StaysAt, hit_of, with_ranked};
 
 use crate::ranking::Ranking;
 use ann_pool::Pool;
@@ -16,7 +16,7 @@ pub struct Desk {
     pub(crate) guided: Pool,
     /// The tables that give guided distances.
     pub(crate) tables: Tables,
-    /// The block that was read last.
+    /// The block that is read.
     pub(crate) page: [u8; 4096],
     /// The nearest points found so far.
     pub(crate) ranking: Ranking,
@@ -24,7 +24,7 @@ pub struct Desk {
 
 /// The pools of a desk, without items.
 fn pools(alloc: Global) -> Result<(Pool, Pool), AllocError>
-    ensures { IfOk result (λ pools. pools.0 ≡ record { limit = 1000; items = []; known = [] }) }
+    ensures { IfOk result (λ pools. pools.0 ≡ record { limit = 1000; items = []; met = [] }) }
 {
     Ok((Pool::with_room(alloc)?, Pool::with_room(alloc)?))
 }
@@ -41,7 +41,7 @@ impl Desk {
 
     /// A desk for searches of an index with any parameters. The only error is want of memory.
     pub fn new(alloc: Global, _params: &Params) -> Result<Desk, AllocError>
-        ensures pool { IfOk result (λ desk. desk.pool ≡ record { limit = 1000; items = []; known = [] }) }
+        ensures pool { IfOk result (λ desk. desk.pool ≡ record { limit = 1000; items = []; met = [] }) }
         ensures result { IfOk result (λ desk. result_of desk ≡ record { limit = 1000; points = [] }) }
     {
         let (pool, guided) = pools(alloc)?;
@@ -68,16 +68,19 @@ impl Desk {
     /// Adds a point to the result, which then has the least of its points and this one, as many as its limit allows.
     pub fn add(&mut self, pid: Pid, tag: Tag, distance: u32)
         ensures limit { (result_of self.new).limit ≡ (result_of self.old).limit }
-        ensures points { (result_of self.new).points ≡ with_ranked (result_of self.old).limit (record { pid = pid; tag = tag; distance = distance }) (result_of self.old).points }
+        ensures points { (result_of self.new).points ≡ with_ranked (result_of self.old).limit
+            (record { pid = pid; tag = tag; distance = distance }) (result_of self.old).points }
         ensures pool { self.new.pool ≡ self.old.pool }
         ensures page { page_of self.new ≡ page_of self.old }
     {
         self.ranking.add(pid, tag, distance);
     }
 
-    /// Whether a point this far away would change nothing, since the result has as many points as it may and all are nearer.
+    /// Whether the result has as many points as it may and all are nearer than this, so that a point this far away would
+    /// change nothing.
     pub fn is_beyond(&self, distance: u32) -> bool
-        ensures { result ≡ true → (pid tag : ℕ) → with_ranked (result_of self.now).limit (record { pid = pid; tag = tag; distance = distance }) (result_of self.now).points ≡ (result_of self.now).points }
+        ensures beyond { IsTrue result ↔ IsBeyond distance (result_of self.now) }
+        ensures stays { IsTrue result → StaysAt distance (result_of self.now) }
     {
         self.ranking.is_beyond(distance)
     }
@@ -90,7 +93,7 @@ impl Desk {
         self.ranking.hits()
     }
 
-    /// The block that the last beam read last: 4096 bytes.
+    /// The page: 4096 bytes. After `BadSegment` the block at fault stands there.
     pub fn page(&self) -> &[u8]
         ensures page { result.now ≡ page_of self.now }
         ensures size { length result.now ≡ 4096 }

@@ -6,6 +6,7 @@
 #![tactic(auto)]
 
 mod candidates;
+mod course;
 mod desk;
 mod rank;
 mod ranking;

@@ -14,7 +14,9 @@ pub(crate) fn rank<D: Deleted>(ranking: &mut Ranking, dead: &D, pid: Pid, query:
     requires width { length query.now ≡ length node.now.vector }
     requires short { length query.now ≤ 1024 }
     ensures limit { ranking.new.limit ≡ ranking.old.limit }
-    ensures points { ranking.new.points ≡ with_all ranking.old.limit (alive (D.pids dead.now) (record { pid = pid; tag = node.now.tag; distance = distance query.now node.now.vector } ∷ [])) ranking.old.points }
+    ensures points { ranking.new.points ≡ with_all ranking.old.limit (alive (D.pids dead.now)
+        (record { pid = pid; tag = node.now.tag; distance = distance query.now node.now.vector } ∷ []))
+        ranking.old.points }
 {
     if dead.contains(pid) {
         return;

@@ -1,5 +1,5 @@
-ghost use Rattle.std.specs.Prelude.{◌≡◌, ◌≤◌, [], ℕ, true, length, map, insert, IfOk, vec_len, vec_capacity};
-ghost use Rattle.ann_beam.specs.Ranking.{IsRanked, hit_of, joined, nearer, ranked, with_ranked};
+ghost use Rattle.std.specs.Prelude.{◌≡◌, ◌≤◌, ◌↔◌, [], IsTrue, length, map, IfOk, vec_len, vec_capacity};
+ghost use Rattle.ann_beam.specs.Ranking.{IsBeyond, IsPlaceOf, IsRanked, StaysAt, hit_of, joined, nearer, with_ranked};
 
 use ann_types::{Hit, Pid, Tag};
 use std::alloc::{AllocError, Global};
@@ -21,18 +21,25 @@ pub struct Ranking {
 
 impl Model for Ranking {
     ghost use Rattle.std.specs.Prelude.{◌≡◌, ◌≤◌, ◌<◌, vec_len, vec_capacity};
-    ghost use Rattle.ann_beam.specs.Ranking.{Shown, IsRanked, joined};
+    ghost use Rattle.ann_beam.specs.Ranking.{RankingView, IsRanked, joined};
 
-    ghost Value = { Shown };
+    ghost Value = { RankingView };
 
     ghost view = { λ r. record { limit = r.limit; points = joined r.pids.items r.hits.items } };
 
-    ghost invariant = { λ r. (1 ≤ r.limit) × (r.limit ≤ 1000) × (vec_len r.pids ≡ vec_len r.hits) × (vec_len r.hits ≤ r.limit) × (1000 < vec_capacity r.pids) × (1000 < vec_capacity r.hits) × IsRanked (joined r.pids.items r.hits.items) };
+    ghost invariant = { λ r. (1 ≤ r.limit)
+        × (r.limit ≤ 1000)
+        × (vec_len r.pids ≡ vec_len r.hits)
+        × (vec_len r.hits ≤ r.limit)
+        × (1000 < vec_capacity r.pids)
+        × (1000 < vec_capacity r.hits)
+        × IsRanked (joined r.pids.items r.hits.items) };
 }
 
 /// Whether a point stands before another one.
 fn is_before(distance: u32, pid: Pid, other: &Hit, other_pid: Pid) -> bool
-    ensures { result ≡ nearer (record { pid = pid; tag = 0; distance = distance }) (record { pid = other_pid; tag = other.now.tag; distance = other.now.distance }) }
+    ensures { result ≡ nearer (record { pid = pid; tag = 0; distance = distance })
+        (record { pid = other_pid; tag = other.now.tag; distance = other.now.distance }) }
 {
     distance < other.distance || (distance == other.distance && pid < other_pid)
 }
@@ -43,7 +50,8 @@ fn place_of(pids: &[Pid], hits: &[Hit], pid: Pid, hit: Hit) -> usize
     requires both { length pids.now ≡ length hits.now }
     requires order { IsRanked (joined pids.now hits.now) }
     ensures inside { result ≤ length hits.now }
-    ensures place { ranked (record { pid = pid; tag = hit.tag; distance = hit.distance }) (joined pids.now hits.now) ≡ insert (joined pids.now hits.now) result (record { pid = pid; tag = hit.tag; distance = hit.distance }) }
+    ensures place { IsPlaceOf (record { pid = pid; tag = hit.tag; distance = hit.distance })
+        (joined pids.now hits.now) result }
 {
     let mut place = hits.len();
     while place > 0 && is_before(hit.distance, pid, &hits[place - 1], pids[place - 1]) {
@@ -77,7 +85,8 @@ impl Ranking {
     /// Adds a point: the points are then the least of them and the new one, as many as the limit allows.
     pub fn add(&mut self, pid: Pid, tag: Tag, distance: u32)
         ensures limit { self.new.limit ≡ self.old.limit }
-        ensures points { self.new.points ≡ with_ranked self.old.limit (record { pid = pid; tag = tag; distance = distance }) self.old.points }
+        ensures points { self.new.points ≡ with_ranked self.old.limit
+            (record { pid = pid; tag = tag; distance = distance }) self.old.points }
     {
         let hit = Hit { tag, distance };
         let place = place_of(&self.pids, &self.hits, pid, hit);
@@ -87,10 +96,11 @@ impl Ranking {
         self.hits.truncate(usize::from(self.limit));
     }
 
-    /// Whether a point this far away would change nothing, since there are as many points as there may be and all are
-    /// nearer.
+    /// Whether there are as many points as there may be and all are nearer than this, so that a point this far away
+    /// would change nothing.
     pub fn is_beyond(&self, distance: u32) -> bool
-        ensures { result ≡ true → (pid tag : ℕ) → with_ranked self.now.limit (record { pid = pid; tag = tag; distance = distance }) self.now.points ≡ self.now.points }
+        ensures beyond { IsTrue result ↔ IsBeyond distance self.now }
+        ensures stays { IsTrue result → StaysAt distance self.now }
     {
         let count = self.hits.len();
         count == usize::from(self.limit) && self.hits[count - 1].distance < distance

@@ -13,7 +13,7 @@ use Rattle.ann_types.proofs.Ordered.{has_append}
 use Rattle.ann_types.proofs.Sets.{Rises, rises_left, rises_right, rises_across, has_filter}
 use Rattle.ann_types.proofs.Named.{pids_append}
 use Rattle.ann_types.proofs.Graphs.{wider_left, wider_right}
-use Rattle.ann_beam.specs.Ranking.{Ranked, rank, with_all, Shown as RankingShown}
+use Rattle.ann_beam.specs.Ranking.{Ranked, RankingView, rank, with_all}
 use Rattle.ann_beam.proofs.Rankings.{all_ranked, with_all-append}
 use Rattle.ann_view.specs.Near.{near_points, AreInside}
 use Rattle.ann_view.specs.Search.{near_memory, ranked_of}
@@ -123,16 +123,16 @@ module _ (s : State) (query : List ℕ) (width : ℕ) (r : Rises (pids_of (all_p
       ∙ ranked_new (far_from (all_points s) query) (tag_of (all_points s)) k (without s.dead (near_memory s query width)) (distinct_filter (λ q. not (has s.dead q)) (near_memory s query width) near_differ)
 
   -- The result of one graph after the other.
-  pub result_is : (k : ℕ) (first mid end : RankingShown) → first ≡ record { limit = k; points = [] } → mid.limit ≡ first.limit → mid.points ≡ with_all first.limit (near_points s.dead s.rw query width) first.points → end.limit ≡ mid.limit → end.points ≡ with_all mid.limit (flat_map (λ (g : Graph). near_points s.dead g query width) s.ros) mid.points → end ≡ record { limit = k; points = ranked_of (all_points s) query k (without s.dead (near_memory s query width)) }
+  pub result_is : (k : ℕ) (first mid end : RankingView) → first ≡ record { limit = k; points = [] } → mid.limit ≡ first.limit → mid.points ≡ with_all first.limit (near_points s.dead s.rw query width) first.points → end.limit ≡ mid.limit → end.points ≡ with_all mid.limit (flat_map (λ (g : Graph). near_points s.dead g query width) s.ros) mid.points → end ≡ record { limit = k; points = ranked_of (all_points s) query k (without s.dead (near_memory s query width)) }
   result_is k first mid end empty l p m q =
       let one : List Ranked = near_points s.dead s.rw query width in
       let two : List Ranked = flat_map (λ (g : Graph). near_points s.dead g query width) s.ros in
-      let start_limit : first.limit ≡ k = ap (λ (t : RankingShown). t.limit) empty in
+      let start_limit : first.limit ≡ k = ap (λ (t : RankingView). t.limit) empty in
       let points : end.points ≡ with_all k (one ++ two) [] =
       q ∙ ap (λ n. with_all n two mid.points) (l ∙ start_limit)
-      ∙ ap (with_all k two) (p ∙ ap (λ (t : RankingShown). with_all t.limit one t.points) empty)
+      ∙ ap (with_all k two) (p ∙ ap (λ (t : RankingView). with_all t.limit one t.points) empty)
       ∙ sym (with_all-append k one two []) in
-      ap₂ (λ (n : ℕ) (t : List Ranked). (let x : RankingShown = record { limit = n; points = t } in x)) (m ∙ l ∙ start_limit) (points ∙ near_joined k)
+      ap₂ (λ (n : ℕ) (t : List Ranked). (let x : RankingView = record { limit = n; points = t } in x)) (m ∙ l ∙ start_limit) (points ∙ near_joined k)
 
 -- ---- frozen graphs by their rows
 

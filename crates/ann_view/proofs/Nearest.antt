@@ -21,7 +21,7 @@ use Rattle.ann_greedy.specs.Shows.{AreRows, seen}
 use Rattle.ann_table.specs.Node.{Node, nothing, node_at, row_pid, rows_of, first_row, point_of, graph_of}
 use Rattle.ann_table.specs.Table.{AreNodes}
 use Rattle.ann_table.proofs.Graphs.{length_points, pid_is, rises_are, renames_are, near_is}
-use Rattle.ann_pool.specs.Pool.{Shown as PoolShown}
+use Rattle.ann_pool.specs.Pool.{PoolView}
 use Rattle.ann_pool.specs.declared.item.Item.{Item}
 use Rattle.ann_beam.specs.Ranking.{Ranked, rank, with_ranked, with_all}
 use Rattle.ann_beam.specs.Visits.{alive}
@@ -153,12 +153,12 @@ module _ (params : Params) (nodes : List Node) (query : List ℕ) (width : ℕ) 
       p (ap (λ (t : List ℕ). has t p) (sym (near_is params nodes query width sound)) ∙ h)
 
 -- what a walk leaves, by the rows and the query that it was given
-pub walk_left : (params : Params) (nodes : List Node) (read : Rows) (given query : List ℕ) (cleared : PoolShown) (width : ℕ) (items : List Item) → items ≡ map (seen (far_row read given)) (near_rows read given cleared.limit read.start) → read ≡ rows_of params nodes → given ≡ query → cleared ≡ record { limit = width; items = []; known = [] } → items ≡ map (seen (far_row (rows_of params nodes) query)) (near_rows (rows_of params nodes) query width (first_row nodes))
+pub walk_left : (params : Params) (nodes : List Node) (read : Rows) (given query : List ℕ) (cleared : PoolView) (width : ℕ) (items : List Item) → items ≡ map (seen (far_row read given)) (near_rows read given cleared.limit read.start) → read ≡ rows_of params nodes → given ≡ query → cleared ≡ record { limit = width; items = []; met = [] } → items ≡ map (seen (far_row (rows_of params nodes) query)) (near_rows (rows_of params nodes) query width (first_row nodes))
 walk_left params nodes read given query cleared width items left same asked clear =
     left
     ∙ ap (λ (r : Rows). map (seen (far_row r given)) (near_rows r given cleared.limit r.start)) same
     ∙ ap (λ (q : List ℕ). map (seen (far_row (rows_of params nodes) q)) (near_rows (rows_of params nodes) q cleared.limit (first_row nodes))) asked
-    ∙ ap (λ (p : PoolShown). map (seen (far_row (rows_of params nodes) query)) (near_rows (rows_of params nodes) query p.limit (first_row nodes))) clear
+    ∙ ap (λ (p : PoolView). map (seen (far_row (rows_of params nodes) query)) (near_rows (rows_of params nodes) query p.limit (first_row nodes))) clear
 
 -- ---- graphs one at a time
 

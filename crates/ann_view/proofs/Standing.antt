@@ -18,7 +18,8 @@ use Rattle.std.specs.declared.alloc.Global.{Global}
 use Rattle.ann_view.specs.View.{Shown, index_of, whole}
 use Rattle.ann_view.specs.Steps.{applied}
 use Rattle.ann_view.specs.Stands.{StandsFor, IsEntryOf, lti_of}
-use Rattle.ann_view.specs.Holding.{HoldsIn, HoldsGraph, BringsMerge}
+use Rattle.ann_beam.specs.Quest.{HoldsIn}
+use Rattle.ann_view.specs.Holding.{HoldsGraph, BringsMerge}
 use Rattle.ann_view.specs.declared.op.Op.{Op}
 use Rattle.ann_view.specs.declared.op.Op.TheVariants.{Insert, Delete, Replace, Begin, End, Close}
 

@@ -1,6 +1,6 @@
 -- The results of the graphs in memory and of the long-term graph are one answer.
-use Rattle.std.proofs.Common.{◌≡◌, ℕ, true, not, List, [], ◌∷◌, ◌++◌, refl, sym, ap, ◌∙◌, subst, map, length, append_assoc}
-use Rattle.std.specs.Prelude.{Option, Some, None}
+use Rattle.std.proofs.Common.{◌≡◌, ℕ, true, not, List, [], ◌∷◌, ◌++◌, refl, sym, ap, ◌∙◌, subst, map, append_assoc}
+use Rattle.std.specs.Prelude.{Option, Some, None, All, IsTrue}
 use Rattle.std.specs.List.{AllByRecursion, flat_map}
 use Rattle.std.proofs.lemmas.List.{map-append}
 use Rattle.std.proofs.lemmas.List.Elements.{filter-append, recursion_from_All}
@@ -11,28 +11,35 @@ use Rattle.ann_types.specs.Rounds.{rounds}
 use Rattle.ann_types.specs.Graph.{Point, Graph, IsGraphOf, pids_of, tag_of, far_from}
 use Rattle.ann_types.specs.Merge.{without}
 use Rattle.ann_types.specs.Fold.{State, all_points}
-use Rattle.ann_types.specs.Lists.{BasedList}
-use Rattle.ann_types.specs.Answer.{found, hit, hits, answer}
+use Rattle.ann_types.specs.Lists.{BasedList, is_live, live_of}
+use Rattle.ann_types.specs.Answer.{hit, hits, answer}
 use Rattle.ann_types.specs.declared.ask.Ask.{Ask}
+use Rattle.ann_types.specs.declared.hit.Hit.{Hit}
 use Rattle.ann_types.specs.declared.params.Params.{Params}
+use Rattle.ann_types.proofs.Found.{answer_is_live}
 use Rattle.ann_types.proofs.Sets.{Rises, rises_right, rises_from_increasing, has_filter}
 use Rattle.ann_types.proofs.Named.{pids_append}
 use Rattle.ann_types.proofs.Graphs.{near_inside, empty_is_graph}
 use Rattle.ann_types.proofs.Rounded.{RoundsWithin, rounds_of_graph}
 use Rattle.ann_segment.specs.Segment.{SegmentView}
-use Rattle.ann_beam.specs.Ranking.{Ranked, rank, hit_of, with_all, Shown as RankingShown}
-use Rattle.ann_beam.specs.Reads.{more_reads}
-use Rattle.ann_pq.specs.Codebook.{Shown as BookShown}
+use Rattle.ann_beam.specs.Ranking.{Ranked, rank, hit_of, with_all, RankingView}
+use Rattle.ann_beam.specs.Quest.{Standing, HoldsIn}
+use Rattle.ann_beam.specs.Found.{VisitsGraph}
 use Rattle.ann_beam.proofs.Rankings.{with_all-append}
 use Rattle.ann_view.specs.Near.{AreInside}
-use Rattle.ann_view.specs.Search.{near_memory, ranked_of, near_result, long_points, IsNearOf}
+use Rattle.ann_view.specs.Search.{near_memory, ranked_of, near_result, quest_by, quest_in, IsAnswered, IsNearOf}
 use Rattle.ann_view.specs.View.{Shown, IsMemory, IsView, index_of, whole, segment_pids, item_pids, pids_in}
-use Rattle.ann_view.specs.Pinned.{PinnedView, pinned}
+use Rattle.ann_view.specs.Pinned.{PinnedView}
 use Rattle.ann_view.specs.Stands.{StandsFor, lti_of}
-use Rattle.ann_view.specs.Holding.{HoldsIn, HoldsGraph}
+use Rattle.ann_view.specs.Holding.{HoldsGraph}
 use Rattle.ann_view.proofs.Distinct.{Distinct, distinct_append, distinct_filter, distinct_from_each}
 use Rattle.ann_view.proofs.Agrees.{Agrees, agrees_left, agrees_right, ranks_agree}
 use Rattle.ann_view.proofs.Joined.{near_differ, near_memory_inside, apart_across, ranked_new}
+
+-- the long-term points that a search visits and that aren't deleted, at their exact distances
+abbrev pub long_of : List ℕ → Book → Graph → List ℕ → ℕ → ℕ → List Ranked
+long_of dead book lti query width w =
+    map (rank (far_from lti.points query) (tag_of lti.points)) (without dead (rounds book lti query width w))
 
 -- what a search tells of ranked points
 hits_ranked : (points : List Point) (query pids : List ℕ) → map hit_of (map (rank (far_from points query) (tag_of points)) pids) ≡ map (hit points query) pids
@@ -108,16 +115,16 @@ module _ (params : Params) (book : Book) (memory : State) (lti : Graph) (query :
   far_ranks = ranks_agree lti.points all query far_off (subst (Agrees lti.points) (sym all_are) (agrees_left lti.points own)) far_off_is_in
 
   -- The long-term points, ranked after the points in memory.
-  pub whole_ranked : with_all k (long_points memory.dead book lti query width params.w) (ranked_of own query k near) ≡ ranked_of all query k (near ++ far_off)
+  pub whole_ranked : with_all k (long_of memory.dead book lti query width params.w) (ranked_of own query k near) ≡ ranked_of all query k (near ++ far_off)
   whole_ranked =
-      ap (with_all k (long_points memory.dead book lti query width params.w)) (sym (ranked_new (far_from own query) (tag_of own) k near near_differs) ∙ ap (λ (t : List Ranked). with_all k t []) near_ranks)
+      ap (with_all k (long_of memory.dead book lti query width params.w)) (sym (ranked_new (far_from own query) (tag_of own) k near near_differs) ∙ ap (λ (t : List Ranked). with_all k t []) near_ranks)
       ∙ ap (λ (t : List Ranked). with_all k t (with_all k (ranks near) [])) far_ranks
       ∙ sym (with_all-append k (ranks near) (ranks far_off) [])
       ∙ ap (λ (t : List Ranked). with_all k t []) (sym (map-append (rank (far_from all query) (tag_of all)) near far_off))
       ∙ ranked_new (far_from all query) (tag_of all) k (near ++ far_off) both_differ
 
   -- They are what the definition of an answer has.
-  pub whole_hits : map hit_of (with_all k (long_points memory.dead book lti query width params.w) (ranked_of own query k near)) ≡ hits index state k width query
+  pub whole_hits : map hit_of (with_all k (long_of memory.dead book lti query width params.w) (ranked_of own query k near)) ≡ hits index state k width query
   unfolding hits
   whole_hits =
       ap (map hit_of) whole_ranked
@@ -140,10 +147,10 @@ graph_held bytes params book None lti h = subst (IsGraphOf params) (sym h) (empt
 graph_held bytes params book (Some segment) lti h = h.sound
 
 module _ {S : Type 0} (bytes : S → List ℕ) (view : Shown S) (ask : Ask) (sound : IsView view) where
-  pub view_hits : (lti : Graph) → HoldsGraph bytes view lti → (old : RankingShown) (points : List Ranked) → old ≡ near_result view.memory ask → points ≡ with_all old.limit (long_points view.memory.dead view.book.book lti ask.vector ask.l view.params.w) old.points → map hit_of points ≡ hits (index_of view) (whole view lti) ask.k ask.l ask.vector
+  pub view_hits : (lti : Graph) → HoldsGraph bytes view lti → (old : RankingView) (points : List Ranked) → old ≡ near_result view.memory ask → points ≡ with_all old.limit (long_of view.memory.dead view.book.book lti ask.vector ask.l view.params.w) old.points → map hit_of points ≡ hits (index_of view) (whole view lti) ask.k ask.l ask.vector
   view_hits lti holds old points is e =
       let rising : Rises (pids_in view.segment view.memory) = rises_from_increasing (pids_in view.segment view.memory) sound.rising in
-      ap (map hit_of) (e ∙ ap (λ (t : RankingShown). with_all t.limit (long_points view.memory.dead view.book.book lti ask.vector ask.l view.params.w) t.points) is)
+      ap (map hit_of) (e ∙ ap (λ (t : RankingView). with_all t.limit (long_of view.memory.dead view.book.book lti ask.vector ask.l view.params.w) t.points) is)
       ∙ whole_hits view.params view.book.book view.memory lti ask.vector ask.k ask.l sound.memory (graph_held bytes view.params view.book.book view.segment lti holds)
       (subst (λ (t : List ℕ). Rises (t ++ pids_of (all_points view.memory))) (pids_held bytes view.params view.book.book view.segment lti holds) rising)
 
@@ -151,24 +158,19 @@ module _ {S : Type 0} (bytes : S → List ℕ) (view : Shown S) (ask : Ask) (sou
   pub view_answer : (h : BasedList) → StandsFor view h → hits (index_of view) (whole view (lti_of view h)) ask.k ask.l ask.vector ≡ answer (index_of view) h ask
   view_answer h stands = ap (λ (s : State). hits (index_of view) s ask.k ask.l ask.vector) (sym stands.state)
 
--- ---- what the parts of a search were given
+  -- What stands on the desk behind the search of the graphs in memory and that of the long-term graph answers the ask.
+  pub view_answers : (old new : Standing) → old.result ≡ near_result view.memory ask → ((lti : Graph) → HoldsGraph bytes view lti → VisitsGraph (quest_in view ask) lti old new) → IsAnswered bytes view ask new.result.points
+  view_answers old new is visits =
+      let found = λ (lti : Graph) (holds : HoldsGraph bytes view lti). view_hits lti holds old.result new.result.points is (visits lti holds).points in
+      record {
+        found = found;
+        answer = λ h stands holds. found (lti_of view h) holds ∙ view_answer h stands;
+        live = λ h stands holds legal.
+            subst (λ (t : List Hit). All (λ (x : Hit). IsTrue (is_live (live_of h) x.tag)) t) (sym (found (lti_of view h) holds ∙ view_answer h stands)) (answer_is_live (index_of view) h ask legal.base legal.entries);
+      }
 
--- the parts hold what the view holds
-pub held_by : {S : Type 0} (bytes : S → List ℕ) (pin own : PinnedView S) (book : BookShown) (lti : Graph) → own ≡ pin → book ≡ own.book → HoldsIn bytes pin.params pin.book.book pin.segment lti → HoldsIn bytes own.params book.book own.segment lti
-held_by {S = S} bytes pin own book lti is read holds =
-    subst (λ (b : BookShown). HoldsIn bytes own.params b.book own.segment lti) (sym read)
-    (subst (λ (p : PinnedView S). HoldsIn bytes p.params p.book.book p.segment lti) (sym is) holds)
-
-pub disk_hits : {S : Type 0} (bytes : S → List ℕ) (view : Shown S) (ask : Ask) (pin own : PinnedView S) (book : BookShown) (lti : Graph) (old : RankingShown) (points : List Ranked) → IsNearOf pin ask old view → own ≡ pin → book ≡ own.book → HoldsGraph bytes view lti → (HoldsIn bytes own.params book.book own.segment lti → points ≡ with_all old.limit (long_points own.dead book.book lti ask.vector ask.l own.params.w) old.points) → map hit_of points ≡ hits (index_of view) (whole view lti) ask.k ask.l ask.vector
-disk_hits {S = S} bytes view ask pin own book lti old points near is read holds found =
-    let same : own ≡ pinned view = is ∙ sym near.pinned in
-    view_hits bytes view ask near.sound lti holds old points near.near
-    (found (held_by bytes (pinned view) own book lti same read holds)
-    ∙ ap (λ (b : BookShown). with_all old.limit (long_points own.dead b.book lti ask.vector ask.l own.params.w) old.points) read
-    ∙ ap (λ (p : PinnedView S). with_all old.limit (long_points p.dead p.book.book lti ask.vector ask.l p.params.w) old.points) same)
-
-pub disk_reads : {S : Type 0} (bytes : S → List ℕ) (ask : Ask) (pin own : PinnedView S) (book : BookShown) (lti : Graph) (old new : ℕ) → own ≡ pin → book ≡ own.book → HoldsIn bytes pin.params pin.book.book pin.segment lti → (HoldsIn bytes own.params book.book own.segment lti → new ≡ more_reads (length (rounds book.book lti ask.vector ask.l own.params.w)) old) → new ≡ more_reads (length (rounds pin.book.book lti ask.vector ask.l pin.params.w)) old
-disk_reads {S = S} bytes ask pin own book lti old new is read holds counted =
-    counted (held_by bytes pin own book lti is read holds)
-    ∙ ap (λ (b : BookShown). more_reads (length (rounds b.book lti ask.vector ask.l own.params.w)) old) read
-    ∙ ap (λ (p : PinnedView S). more_reads (length (rounds p.book.book lti ask.vector ask.l p.params.w)) old) is
+-- the same by a pin
+pub pin_answers : {S : Type 0} (bytes : S → List ℕ) (view : Shown S) (ask : Ask) (pin : PinnedView S) (old new : Standing) → IsNearOf pin ask old.result view → ((lti : Graph) → HoldsIn bytes pin.params pin.book.book pin.segment lti → VisitsGraph (quest_by pin ask) lti old new) → IsAnswered bytes view ask new.result.points
+pin_answers {S = S} bytes view ask pin old new near visits =
+    view_answers bytes view ask near.sound old new near.near
+    (subst (λ (p : PinnedView S). (lti : Graph) → HoldsIn bytes p.params p.book.book p.segment lti → VisitsGraph (quest_by p ask) lti old new) (sym near.pinned) visits)

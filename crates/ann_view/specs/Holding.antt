@@ -1,21 +1,15 @@
 -- When a view's segment holds a long-term graph.
-use Rattle.std.specs.Prelude.{◌≡◌, ℕ, List, Option, Some, None}
-use Rattle.ann_types.specs.Graph.{Graph, empty_graph}
-use Rattle.ann_types.specs.Codes.{Book}
+use Rattle.std.specs.Prelude.{ℕ, List}
+use Rattle.ann_types.specs.Graph.{Graph}
 use Rattle.ann_types.specs.Lists.{BasedList}
 use Rattle.ann_types.specs.Fold.{fold_of, merge_of}
-use Rattle.ann_types.specs.declared.params.Params.{Params}
-use Rattle.ann_segment.specs.Segment.{SegmentView}
 use Rattle.ann_segment.specs.Holds.{Holds}
+use Rattle.ann_beam.specs.Quest.{HoldsIn}
 use Rattle.ann_view.specs.View.{Shown, index_of}
 use Rattle.ann_view.specs.declared.op.Op.{Op}
 use Rattle.ann_view.specs.declared.op.Op.TheVariants.{Insert, Delete, Replace, Begin, End, Close}
 
--- the segment holds this graph, or there is no segment and no point; `bytes` are those of a seal
-abbrev pub HoldsIn : {S : Type 0} → (S → List ℕ) → Params → Book → Option (SegmentView S) → Graph → Type 0
-HoldsIn bytes params book None lti = lti ≡ empty_graph
-HoldsIn bytes params book (Some segment) lti = Holds params book (bytes segment.seal) segment lti
-
+-- `bytes` are those of a seal
 abbrev pub HoldsGraph : {S : Type 0} → (S → List ℕ) → Shown S → Graph → Type 0
 HoldsGraph bytes view lti = HoldsIn bytes view.params view.book.book view.segment lti
 

@@ -16,6 +16,9 @@ pub record Temp : Type 0 where
   pub params : Params
   pub state : State
 
+abbrev pub with_state : Temp → State → Temp
+with_state temp state = record temp { state = state }
+
 -- the state of a table, frozen graphs, deleted points and an open merge
 abbrev pub state_of : TableShown → List FrozenShown → List ℕ → Option Begun → State
 state_of rw ros dead begun =

@@ -1,5 +1,5 @@
 -- What is seen of a view, and what is true of every view.
-use Rattle.std.specs.Prelude.{◌≡◌, ◌≤◌, ◌<◌, ℕ, Bool, List, [], ◌++◌, Option, Some, None, MatchOption, All, map}
+use Rattle.std.specs.Prelude.{◌≡◌, ◌≤◌, ◌<◌, ℕ, Bool, false, List, [], ◌++◌, Option, Some, None, MatchOption, All, map}
 use Rattle.std.specs.Arc.{arc_value}
 use Rattle.std.specs.Option.{option_map}
 use Rattle.std.specs.List.Sorted.{IsStrictlyIncreasing}
@@ -7,7 +7,7 @@ use Rattle.std.specs.declared.sync.Arc.{Arc}
 use Rattle.std.specs.declared.alloc.Global.{Global}
 use Rattle.ann_types.specs.Graph.{Graph, empty_graph, pids_of, IsGraphOf}
 use Rattle.ann_types.specs.Index.{Index}
-use Rattle.ann_types.specs.Fold.{State, all_points}
+use Rattle.ann_types.specs.Fold.{State, all_points, start}
 use Rattle.ann_types.specs.Legal.{pid_end}
 use Rattle.ann_types.specs.declared.params.Params.{Params}
 use Rattle.ann_pq.specs.Codebook.{Shown as BookShown}
@@ -25,6 +25,11 @@ pub record Shown (S : Type 0) : Type 0 where
   pub memory : State
   pub segment : Option (SegmentView S)
   pub closed : Bool
+
+-- a view with nothing in memory
+abbrev pub opening : {S : Type 0} → Params → BookShown → ℕ → ℕ → Option (SegmentView S) → Shown S
+opening params book at next segment =
+    record { params = params; book = book; at = at; next = next; memory = start empty_graph; segment = segment; closed = false }
 
 -- its index, and its state where this is the long-term graph
 abbrev pub index_of : {S : Type 0} → Shown S → Index

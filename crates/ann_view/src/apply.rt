@@ -29,11 +29,14 @@ impl<S: Sealed> View<S> {
         ensures refused { OnErr result (self.new ≡ self.old) }
 
         // A view that stands for a list stands for the list with the entry.
-        ensures stands { (h : BasedList) (entry : Entry) → StandsFor self.old h → IsEntryOf h op.now entry → OnOk result (StandsFor self.new (with_entry h entry)) }
+        ensures stands { (h : BasedList) (entry : Entry) → StandsFor self.old h → IsEntryOf h op.now entry →
+            OnOk result (StandsFor self.new (with_entry h entry)) }
 
         // Where its segment holds the list's long-term graph, and an End's segment the one that the merge makes, the new
         // segment holds the new list's.
-        ensures holds { (h : BasedList) (entry : Entry) → StandsFor self.old h → IsEntryOf h op.now entry → HoldsGraph S.bytes self.old (lti_of self.old h) → BringsMerge S.bytes self.old h op.now → OnOk result (HoldsGraph S.bytes self.new (lti_of self.new (with_entry h entry))) }
+        ensures holds { (h : BasedList) (entry : Entry) → StandsFor self.old h → IsEntryOf h op.now entry →
+            HoldsGraph S.bytes self.old (lti_of self.old h) → BringsMerge S.bytes self.old h op.now →
+            OnOk result (HoldsGraph S.bytes self.new (lti_of self.new (with_entry h entry))) }
     {
         self.step(op)?;
         Ok(())
@@ -62,7 +65,8 @@ impl<S: Sealed> View<S> {
     fn insert(&mut self, tag: Tag, vector: &Vector) -> Result<(), AllocError>
         requires room { self.old.at < 2 ^ 64 - 1 }
         requires fits { FitsIn self.old vector.now }
-        ensures applied { OnOk result (self.new ≡ with_point_more self.old (inserted self.old.params self.old.memory self.old.next tag vector.now)) }
+        ensures applied { OnOk result (self.new ≡ with_point_more self.old
+            (inserted self.old.params self.old.memory self.old.next tag vector.now)) }
         ensures refused { OnErr result (self.new ≡ self.old) }
     {
         self.temp.insert(self.next, tag, vector.bytes())?;
@@ -73,7 +77,8 @@ impl<S: Sealed> View<S> {
 
     fn delete(&mut self, pid: Pid) -> Result<(), AllocError>
         requires room { self.old.at < 2 ^ 64 - 1 }
-        ensures applied { OnOk result (self.new ≡ with_entry_more self.old (deleted self.old.memory (pid ∷ []))) }
+        ensures applied { OnOk result (self.new ≡
+            with_entry_more self.old (deleted self.old.memory (pid ∷ []))) }
         ensures refused { OnErr result (self.new ≡ self.old) }
     {
         self.temp.delete(pid)?;
@@ -84,7 +89,8 @@ impl<S: Sealed> View<S> {
     fn replace(&mut self, tag: Tag, gone: Pid, vector: &Vector) -> Result<(), AllocError>
         requires room { self.old.at < 2 ^ 64 - 1 }
         requires fits { FitsIn self.old vector.now }
-        ensures applied { OnOk result (self.new ≡ with_point_more self.old (inserted self.old.params (deleted self.old.memory (gone ∷ [])) self.old.next tag vector.now)) }
+        ensures applied { OnOk result (self.new ≡ with_point_more self.old
+            (inserted self.old.params (deleted self.old.memory (gone ∷ [])) self.old.next tag vector.now)) }
         ensures refused { OnErr result (self.new ≡ self.old) }
     {
         self.temp.replace(gone, self.next, tag, vector.bytes())?;
@@ -95,7 +101,8 @@ impl<S: Sealed> View<S> {
 
     fn begin(&mut self) -> Result<(), AllocError>
         requires room { self.old.at < 2 ^ 64 - 1 }
-        ensures applied { OnOk result (self.new ≡ with_entry_more self.old (begun_at self.old.memory self.old.at)) }
+        ensures applied { OnOk result (self.new ≡
+            with_entry_more self.old (begun_at self.old.memory self.old.at)) }
         ensures refused { OnErr result (self.new ≡ self.old) }
     {
         self.temp.begin(self.at)?;
@@ -106,7 +113,8 @@ impl<S: Sealed> View<S> {
     fn end(&mut self, segment: &Arc<Segment<S>>) -> Result<(), AllocError>
         requires room { self.old.at < 2 ^ 64 - 1 }
         requires fits { MayEnd self.old segment.now.value }
-        ensures applied { OnOk result (self.new ≡ with_segment (with_entry_more self.old (ended self.old.memory)) segment.now.value) }
+        ensures applied { OnOk result (self.new ≡
+            with_segment (with_entry_more self.old (ended self.old.memory)) segment.now.value) }
         ensures refused { OnErr result (self.new ≡ self.old) }
     {
         segment.known();

@@ -64,7 +64,8 @@ impl FrozenList {
 
     /// Freezes a table, and adds it as the youngest. The only error is want of memory; the list is then as it was.
     pub(crate) fn freeze(&mut self, table: &Table) -> Result<(), AllocError>
-        ensures added { OnOk result (self.new ≡ self.old ++ (record { params = table.now.params; nodes = frozen_of table.now.nodes }) ∷ []) }
+        ensures added { OnOk result (self.new ≡ self.old
+            ++ (record { params = table.now.params; nodes = frozen_of table.now.nodes }) ∷ []) }
         ensures kept { OnErr result (self.new ≡ self.old) }
     {
         let alloc = *self.graphs.allocator();

@@ -81,7 +81,8 @@ impl Named for Frozen {
 fn add_item<G: Named>(graph: &G, dead: &Dead, desk: &mut Desk, item: Item)
     requires { item.number < length (G.nodes graph.now) }
     ensures limit { (result_of desk.new).limit ≡ (result_of desk.old).limit }
-    ensures points { (result_of desk.new).points ≡ with_all (result_of desk.old).limit (alive dead.now (row_point (G.nodes graph.now) item ∷ [])) (result_of desk.old).points }
+    ensures points { (result_of desk.new).points ≡ with_all (result_of desk.old).limit
+        (alive dead.now (row_point (G.nodes graph.now) item ∷ [])) (result_of desk.old).points }
     ensures pool { desk.new.pool ≡ desk.old.pool }
 {
     // A point that is too far away needs no look at its Pid.
@@ -98,7 +99,9 @@ fn add_item<G: Named>(graph: &G, dead: &Dead, desk: &mut Desk, item: Item)
 fn add_items<G: Named>(graph: &G, dead: &Dead, desk: &mut Desk)
     requires { AreRows (length (G.nodes graph.now)) desk.old.pool.items }
     ensures limit { (result_of desk.new).limit ≡ (result_of desk.old).limit }
-    ensures points { (result_of desk.new).points ≡ with_all (result_of desk.old).limit (alive dead.now (map (row_point (G.nodes graph.now)) desk.old.pool.items)) (result_of desk.old).points }
+    ensures points { (result_of desk.new).points ≡ with_all (result_of desk.old).limit
+        (alive dead.now (map (row_point (G.nodes graph.now)) desk.old.pool.items))
+        (result_of desk.old).points }
 {
     for place in 0..desk.pool.items().len() {
         let item = desk.pool.items()[place];
@@ -111,7 +114,9 @@ fn add_items<G: Named>(graph: &G, dead: &Dead, desk: &mut Desk)
 pub(crate) fn add_near<G: Named>(graph: &G, dead: &Dead, desk: &mut Desk, ask: &Ask)
     requires { length ask.now.vector ≡ (G.params graph.now).d }
     ensures limit { (result_of desk.new).limit ≡ (result_of desk.old).limit }
-    ensures points { (result_of desk.new).points ≡ with_all (result_of desk.old).limit (near_points dead.now (graph_of (G.nodes graph.now)) ask.now.vector ask.now.l) (result_of desk.old).points }
+    ensures points { (result_of desk.new).points ≡ with_all (result_of desk.old).limit
+        (near_points dead.now (graph_of (G.nodes graph.now)) ask.now.vector ask.now.l)
+        (result_of desk.old).points }
     ensures inside { AreInside ask.now.vector ask.now.l (graph_of (G.nodes graph.now)) }
 {
     graph.known();
@@ -124,8 +129,12 @@ pub(crate) fn add_near<G: Named>(graph: &G, dead: &Dead, desk: &mut Desk, ask: &
 pub(crate) fn add_near_frozen(graphs: &[Arc<Frozen>], dead: &Dead, desk: &mut Desk, ask: &Ask)
     requires { AllByRecursion (λ (f : FrozenShown). length ask.now.vector ≡ f.params.d) (map arc_value graphs.now) }
     ensures limit { (result_of desk.new).limit ≡ (result_of desk.old).limit }
-    ensures points { (result_of desk.new).points ≡ with_all (result_of desk.old).limit (flat_map (λ (f : FrozenShown). near_points dead.now (graph_of f.nodes) ask.now.vector ask.now.l) (map arc_value graphs.now)) (result_of desk.old).points }
-    ensures inside { AllByRecursion (λ (f : FrozenShown). AreInside ask.now.vector ask.now.l (graph_of f.nodes)) (map arc_value graphs.now) }
+    ensures points { (result_of desk.new).points ≡ with_all (result_of desk.old).limit
+        (flat_map (λ (f : FrozenShown). near_points dead.now (graph_of f.nodes) ask.now.vector ask.now.l)
+        (map arc_value graphs.now))
+        (result_of desk.old).points }
+    ensures inside { AllByRecursion (λ (f : FrozenShown). AreInside ask.now.vector ask.now.l (graph_of f.nodes))
+        (map arc_value graphs.now) }
 {
     for graph in graphs {
         let frozen: &Frozen = graph;

@@ -1,22 +1,13 @@
 // The search of the long-term graph behind the graphs in memory.
-ghost use Rattle.std.specs.Prelude.{◌≡◌, ◌≢◌, ◌≤◌, ◌⊎◌, ◌↔◌, ℕ, [], length, map, All, IsTrue, MatchOption, IsOk, IfOk, IfErr, IsErrOf, OnOk, OnErr};
+ghost use Rattle.std.specs.Prelude.{◌≡◌, ◌≢◌, ◌↔◌, [], length, IsOk, IfOk, IfErr, IsErrOf, OnOk, OnErr};
 ghost use Rattle.std.specs.Arc.{arc_value};
 ghost use Rattle.std.specs.Option.{option_map};
-ghost use Rattle.ann_types.specs.Graph.{Graph};
-ghost use Rattle.ann_types.specs.Rounds.{rounds};
-ghost use Rattle.ann_types.specs.Lists.{BasedList, is_live, live_of};
-ghost use Rattle.ann_types.specs.Legal.{IsLegal};
-ghost use Rattle.ann_types.specs.declared.hit.Hit.{Hit};
-ghost use Rattle.ann_types.specs.Answer.{hits, answer};
-ghost use Rattle.ann_vault.specs.Causes.{Rose};
-ghost use Rattle.ann_beam.specs.Desk.{page_of, result_of};
-ghost use Rattle.ann_beam.specs.Ranking.{hit_of, with_all};
-ghost use Rattle.ann_beam.specs.Reads.{more_reads};
-ghost use Rattle.ann_beam.specs.declared.refused.SearchRefused.TheVariants.{Dimension, Disk, BadSegment};
-ghost use Rattle.ann_view.specs.View.{Shown, index_of, whole};
-ghost use Rattle.ann_view.specs.Search.{near_result, long_points, IsNearOf, IsBadIn, IsReadIn};
-ghost use Rattle.ann_view.specs.Stands.{StandsFor, lti_of};
-ghost use Rattle.ann_view.specs.Holding.{HoldsIn, HoldsGraph};
+ghost use Rattle.ann_beam.specs.Desk.{result_of, standing};
+ghost use Rattle.ann_beam.specs.Found.{IsSearched};
+ghost use Rattle.ann_beam.specs.Quest.{Fits, quest_of};
+ghost use Rattle.ann_beam.specs.declared.refused.SearchRefused.TheVariants.{Dimension};
+ghost use Rattle.ann_view.specs.View.{Shown};
+ghost use Rattle.ann_view.specs.Search.{IsAnswered, IsNearOf, from_near, near_result, quest_by, quest_in};
 
 use crate::pinned::Pinned;
 use crate::view::View;
@@ -45,19 +36,13 @@ fn add_long_term<S: Sealed, E: Eye<Seal = S>, D: Deleted>(
     eye: &mut E,
     ask: &Ask,
 ) -> Result<(), SearchRefused>
-    requires width { length ask.now.vector ≡ params.now.d }
-    requires book { (book.now.d ≡ params.now.d) × (book.now.m ≡ params.now.m) }
-    requires codes { MatchOption segment.now (Unit {0}) (λ segment. segment.value.m ≡ params.now.m) }
-    ensures found { S.tells → (lti : Graph) → HoldsIn S.bytes params.now book.now.book (option_map arc_value segment.now) lti → OnOk result ((result_of desk.new).points ≡ with_all (result_of desk.old).limit (long_points (D.pids dead.now) book.now.book lti ask.now.vector ask.now.l params.now.w) (result_of desk.old).points) }
-    ensures read { S.tells → (lti : Graph) → HoldsIn S.bytes params.now book.now.book (option_map arc_value segment.now) lti → OnOk result (E.reads eye.new ≡ more_reads (length (rounds book.now.book lti ask.now.vector ask.now.l params.now.w)) (E.reads eye.old)) }
+    requires { Fits
+        (quest_of (option_map arc_value segment.now) params.now book.now (D.pids dead.now) ask.now) }
+    ensures searched { IsSearched S.tells S.bytes
+        (quest_of (option_map arc_value segment.now) params.now book.now (D.pids dead.now) ask.now)
+        (standing desk.old (E.reads eye.old) (E.faults eye.old))
+        (standing desk.new (E.reads eye.new) (E.faults eye.new)) result }
     ensures emptied { OnErr result ((result_of desk.new).points ≡ []) }
-    ensures refused { IfErr result (λ why. (why ≡ Disk) ⊎ ((block : ℕ) × (why ≡ BadSegment block))) }
-    ensures disk { IfErr result (λ why. why ≡ Disk → Rose (E.faults eye.old) (E.faults eye.new)) }
-    ensures bad { IfErr result (λ why. (block : ℕ) → why ≡ BadSegment block → IsBadIn (option_map arc_value segment.now) params.now (page_of desk.new) block) }
-    ensures bad_read { IfErr result (λ why. (block : ℕ) → why ≡ BadSegment block → Rose (E.reads eye.old) (E.reads eye.new)) }
-    ensures bad_told { S.tells → IfErr result (λ why. (block : ℕ) → why ≡ BadSegment block → IsReadIn S.bytes (option_map arc_value segment.now) (page_of desk.new) block) }
-    ensures sound { S.tells → (lti : Graph) → HoldsIn S.bytes params.now book.now.book (option_map arc_value segment.now) lti → IfErr result (λ why. why ≡ Disk) }
-    ensures later { E.faults eye.old ≤ E.faults eye.new }
 {
     let Some(segment) = segment else {
         return Ok(());
@@ -90,23 +75,14 @@ impl<S: Sealed> Pinned<S> {
         requires width { length ask.now.vector ≡ self.params.d }
         requires near { (view : Shown S) × IsNearOf self ask.now (result_of desk.old) view }
         ensures at { IfOk result (λ found. found.at ≡ self.at) }
+        ensures searched { IsSearched S.tells S.bytes (quest_by self ask.now)
+            (standing desk.old (E.reads eye.old) (E.faults eye.old))
+            (standing desk.new (E.reads eye.new) (E.faults eye.new)) result }
 
-        // It finds the answer of that state, with the long-term graph that the segment holds.
-        ensures found { S.tells → (view : Shown S) (lti : Graph) → IsNearOf self ask.now (result_of desk.old) view → HoldsGraph S.bytes view lti → OnOk result (map hit_of (result_of desk.new).points ≡ hits (index_of view) (whole view lti) ask.now.k ask.now.l ask.now.vector) }
-
-        // So it finds the answer of every list that the view stands for.
-        ensures answer { S.tells → (view : Shown S) (h : BasedList) → IsNearOf self ask.now (result_of desk.old) view → StandsFor view h → HoldsGraph S.bytes view (lti_of view h) → OnOk result (map hit_of (result_of desk.new).points ≡ answer (index_of view) h ask.now) }
-
-        // Each point that it visits in the long-term graph is read once.
-        ensures read { S.tells → (lti : Graph) → HoldsIn S.bytes self.params self.book.book self.segment lti → OnOk result (E.reads eye.new ≡ more_reads (length (rounds self.book.book lti ask.now.vector ask.now.l self.params.w)) (E.reads eye.old)) }
+        // It finds the answer of the state that was pinned.
+        ensures answered { S.tells → (view : Shown S) → IsNearOf self ask.now (result_of desk.old) view →
+            OnOk result (IsAnswered S.bytes view ask.now (result_of desk.new).points) }
         ensures emptied { OnErr result ((result_of desk.new).points ≡ []) }
-        ensures refused { IfErr result (λ why. (why ≡ Disk) ⊎ ((block : ℕ) × (why ≡ BadSegment block))) }
-        ensures disk { IfErr result (λ why. why ≡ Disk → Rose (E.faults eye.old) (E.faults eye.new)) }
-        ensures bad { IfErr result (λ why. (block : ℕ) → why ≡ BadSegment block → IsBadIn self.segment self.params (page_of desk.new) block) }
-        ensures bad_read { IfErr result (λ why. (block : ℕ) → why ≡ BadSegment block → Rose (E.reads eye.old) (E.reads eye.new)) }
-        ensures bad_told { S.tells → IfErr result (λ why. (block : ℕ) → why ≡ BadSegment block → IsReadIn S.bytes self.segment (page_of desk.new) block) }
-        ensures sound { S.tells → (lti : Graph) → HoldsIn S.bytes self.params self.book.book self.segment lti → IfErr result (λ why. why ≡ Disk) }
-        ensures later { E.faults eye.old ≤ E.faults eye.new }
     {
         add_long_term(
             &self.segment,
@@ -162,23 +138,14 @@ impl<S: Sealed> View<S> {
         requires width { length ask.now.vector ≡ self.now.params.d }
         requires near { result_of desk.old ≡ near_result self.now.memory ask.now }
         ensures at { IfOk result (λ found. found.at ≡ self.now.at) }
+        ensures searched { IsSearched S.tells S.bytes (quest_in self.now ask.now)
+            (standing desk.old (E.reads eye.old) (E.faults eye.old))
+            (standing desk.new (E.reads eye.new) (E.faults eye.new)) result }
 
-        // It finds the answer of this state, with the long-term graph that the segment holds.
-        ensures found { S.tells → (lti : Graph) → HoldsGraph S.bytes self.now lti → OnOk result (map hit_of (result_of desk.new).points ≡ hits (index_of self.now) (whole self.now lti) ask.now.k ask.now.l ask.now.vector) }
-
-        // So it finds the answer of every list that the view stands for.
-        ensures answer { S.tells → (h : BasedList) → StandsFor self.now h → HoldsGraph S.bytes self.now (lti_of self.now h) → OnOk result (map hit_of (result_of desk.new).points ≡ answer (index_of self.now) h ask.now) }
-
-        // Each point that it visits in the long-term graph is read once.
-        ensures read { S.tells → (lti : Graph) → HoldsGraph S.bytes self.now lti → OnOk result (E.reads eye.new ≡ more_reads (length (rounds self.now.book.book lti ask.now.vector ask.now.l self.now.params.w)) (E.reads eye.old)) }
+        // It finds the answer of this state.
+        ensures answered { S.tells →
+            OnOk result (IsAnswered S.bytes self.now ask.now (result_of desk.new).points) }
         ensures emptied { OnErr result ((result_of desk.new).points ≡ []) }
-        ensures refused { IfErr result (λ why. (why ≡ Disk) ⊎ ((block : ℕ) × (why ≡ BadSegment block))) }
-        ensures disk { IfErr result (λ why. why ≡ Disk → Rose (E.faults eye.old) (E.faults eye.new)) }
-        ensures bad { IfErr result (λ why. (block : ℕ) → why ≡ BadSegment block → IsBadIn self.now.segment self.now.params (page_of desk.new) block) }
-        ensures bad_read { IfErr result (λ why. (block : ℕ) → why ≡ BadSegment block → Rose (E.reads eye.old) (E.reads eye.new)) }
-        ensures bad_told { S.tells → IfErr result (λ why. (block : ℕ) → why ≡ BadSegment block → IsReadIn S.bytes self.now.segment (page_of desk.new) block) }
-        ensures sound { S.tells → (lti : Graph) → HoldsGraph S.bytes self.now lti → IfErr result (λ why. why ≡ Disk) }
-        ensures later { E.faults eye.old ≤ E.faults eye.new }
     {
         let params = self.temp.params();
         add_long_term(
@@ -208,28 +175,18 @@ impl<S: Sealed> View<S> {
     ) -> Result<Found, SearchRefused>
         ensures at { IfOk result (λ found. found.at ≡ self.now.at) }
 
-        // It finds the answer of this state, with the long-term graph that the segment holds.
-        ensures found { S.tells → (lti : Graph) → HoldsGraph S.bytes self.now lti → OnOk result (map hit_of (result_of desk.new).points ≡ hits (index_of self.now) (whole self.now lti) ask.now.k ask.now.l ask.now.vector) }
-
-        // So it finds the answer of every list that the view stands for.
-        ensures answer { S.tells → (h : BasedList) → StandsFor self.now h → HoldsGraph S.bytes self.now (lti_of self.now h) → OnOk result (map hit_of (result_of desk.new).points ≡ answer (index_of self.now) h ask.now) }
-
-        // Every tag that it finds is live, where the list is one that the index may hold.
-        ensures live { S.tells → (h : BasedList) → StandsFor self.now h → HoldsGraph S.bytes self.now (lti_of self.now h) → IsLegal (index_of self.now) h → OnOk result (All (λ (x : Hit). IsTrue (is_live (live_of h) x.tag)) (map hit_of (result_of desk.new).points)) }
-
-        // Each point that it visits in the long-term graph is read once.
-        ensures read { S.tells → (lti : Graph) → HoldsGraph S.bytes self.now lti → OnOk result (E.reads eye.new ≡ more_reads (length (rounds self.now.book.book lti ask.now.vector ask.now.l self.now.params.w)) (E.reads eye.old)) }
-        ensures emptied { OnErr result ((result_of desk.new).points ≡ []) }
-
         // Where the lengths differ that is answered, and nothing is read.
-        ensures differ { length ask.now.vector ≢ self.now.params.d → IsErrOf result (Dimension (length ask.now.vector) self.now.params.d) × (eye.new ≡ eye.old) }
-        ensures refused { length ask.now.vector ≡ self.now.params.d → IfErr result (λ why. (why ≡ Disk) ⊎ ((block : ℕ) × (why ≡ BadSegment block))) }
-        ensures disk { IfErr result (λ why. why ≡ Disk → Rose (E.faults eye.old) (E.faults eye.new)) }
-        ensures bad { IfErr result (λ why. (block : ℕ) → why ≡ BadSegment block → IsBadIn self.now.segment self.now.params (page_of desk.new) block) }
-        ensures bad_read { IfErr result (λ why. (block : ℕ) → why ≡ BadSegment block → Rose (E.reads eye.old) (E.reads eye.new)) }
-        ensures bad_told { S.tells → IfErr result (λ why. (block : ℕ) → why ≡ BadSegment block → IsReadIn S.bytes self.now.segment (page_of desk.new) block) }
-        ensures sound { S.tells → (lti : Graph) → HoldsGraph S.bytes self.now lti → IfErr result (λ why. (block : ℕ) → why ≢ BadSegment block) }
-        ensures later { E.faults eye.old ≤ E.faults eye.new }
+        ensures differ { length ask.now.vector ≢ self.now.params.d →
+            IsErrOf result (Dimension (length ask.now.vector) self.now.params.d) × (eye.new ≡ eye.old) }
+        ensures searched { length ask.now.vector ≡ self.now.params.d →
+            IsSearched S.tells S.bytes (quest_in self.now ask.now)
+            (from_near self.now ask.now (standing desk.old (E.reads eye.old) (E.faults eye.old)))
+            (standing desk.new (E.reads eye.new) (E.faults eye.new)) result }
+
+        // It finds the answer of this state.
+        ensures answered { S.tells →
+            OnOk result (IsAnswered S.bytes self.now ask.now (result_of desk.new).points) }
+        ensures emptied { OnErr result ((result_of desk.new).points ≡ []) }
     {
         self.near(desk, ask)?;
         self.disk(desk, eye, ask)

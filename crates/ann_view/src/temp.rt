@@ -7,7 +7,7 @@ ghost use Rattle.ann_types.specs.Legal.{has_work};
 ghost use Rattle.ann_table.specs.Node.{Node, graph_of};
 ghost use Rattle.ann_frozen.specs.Frozen.{Shown as FrozenShown};
 ghost use Rattle.ann_beam.specs.Desk.{result_of};
-ghost use Rattle.ann_view.specs.Temp.{IsTemp, IsFrozenWith};
+ghost use Rattle.ann_view.specs.Temp.{IsTemp, IsFrozenWith, with_state};
 ghost use Rattle.ann_view.specs.Search.{near_result};
 
 use crate::frozen_list::FrozenList;
@@ -69,7 +69,8 @@ fn freeze_with_point(
 
 /// Copies the graphs in memory. The only error is want of memory.
 fn copy_graphs(rw: &Table, ros: &FrozenList) -> Result<(Table, FrozenList), AllocError>
-    ensures rw { IfOk result (λ graphs. graphs.0 ≡ record { params = rw.now.params; nodes = rw.now.nodes; spare = 0 }) }
+    ensures rw { IfOk result (λ graphs.
+        graphs.0 ≡ record { params = rw.now.params; nodes = rw.now.nodes; spare = 0 }) }
     ensures ros { IfOk result (λ graphs. graphs.1 ≡ ros.now) }
 {
     let ros = ros.copy()?;
@@ -128,7 +129,8 @@ impl TempIndex {
         requires above { All (λ (x : Point). x.pid < pid) self.old.state.rw.points }
         requires small { pid < 4294967295 }
         requires vector { length vector.now ≡ self.old.params.d }
-        ensures inserted { OnOk result (self.new ≡ record self.old { state = inserted self.old.params self.old.state pid tag vector.now }) }
+        ensures inserted { OnOk result (self.new ≡ with_state self.old
+            (inserted self.old.params self.old.state pid tag vector.now)) }
         ensures refused { OnErr result (self.new ≡ self.old) }
     {
         if Graph::count(&self.rw) + 1 < self.params.freeze_at {
@@ -145,7 +147,8 @@ impl TempIndex {
         requires small { pid < 4294967295 }
         requires vector { length vector.now ≡ self.old.params.d }
         requires last { length self.old.state.rw.points + 1 ≡ self.old.params.freeze_at }
-        ensures inserted { OnOk result (self.new ≡ record self.old { state = inserted self.old.params self.old.state pid tag vector.now }) }
+        ensures inserted { OnOk result (self.new ≡ with_state self.old
+            (inserted self.old.params self.old.state pid tag vector.now)) }
         ensures refused { OnErr result (self.new ≡ self.old) }
     {
         freeze_with_point(&mut self.ros, &self.rw, &mut self.scratch, pid, tag, vector)?;
@@ -155,7 +158,7 @@ impl TempIndex {
 
     /// Deletes a point. The only error is want of memory; nothing has changed then.
     pub(crate) fn delete(&mut self, pid: Pid) -> Result<(), AllocError>
-        ensures deleted { OnOk result (self.new ≡ record self.old { state = deleted self.old.state (pid ∷ []) }) }
+        ensures deleted { OnOk result (self.new ≡ with_state self.old (deleted self.old.state (pid ∷ []))) }
         ensures refused { OnErr result (self.new ≡ self.old) }
     {
         self.dead.add(pid)?;
@@ -173,7 +176,8 @@ impl TempIndex {
         requires above { All (λ (x : Point). x.pid < pid) self.old.state.rw.points }
         requires small { pid < 4294967295 }
         requires vector { length vector.now ≡ self.old.params.d }
-        ensures replaced { OnOk result (self.new ≡ record self.old { state = inserted self.old.params (deleted self.old.state (gone ∷ [])) pid tag vector.now }) }
+        ensures replaced { OnOk result (self.new ≡ with_state self.old
+            (inserted self.old.params (deleted self.old.state (gone ∷ [])) pid tag vector.now)) }
         ensures refused { OnErr result (self.new ≡ self.old) }
     {
         let mut dead = self.dead.copy()?;
@@ -188,7 +192,7 @@ impl TempIndex {
     ///
     /// The only error is want of memory; nothing has changed then.
     pub(crate) fn begin(&mut self, position: u64) -> Result<(), AllocError>
-        ensures begun { OnOk result (self.new ≡ record self.old { state = begun_at self.old.state position }) }
+        ensures begun { OnOk result (self.new ≡ with_state self.old (begun_at self.old.state position)) }
         ensures refused { OnErr result (self.new ≡ self.old) }
     {
         let gone = self.dead.copy()?;
@@ -199,7 +203,8 @@ impl TempIndex {
 
     /// Freezes the graph that takes new points, unless it is empty.
     fn freeze(&mut self) -> Result<(), AllocError>
-        ensures frozen { OnOk result (self.new ≡ record self.old { state = if is_empty self.old.state.rw then self.old.state else frozen self.old.state self.old.state.rw }) }
+        ensures frozen { OnOk result (self.new ≡ with_state self.old
+            (if is_empty self.old.state.rw then self.old.state else frozen self.old.state self.old.state.rw)) }
         ensures refused { OnErr result (self.new ≡ self.old) }
     {
         if Graph::count(&self.rw) == 0 {
@@ -214,7 +219,8 @@ impl TempIndex {
     ///
     /// The only error is want of memory; nothing has changed then.
     pub(crate) fn end(&mut self) -> Result<(), AllocError>
-        ensures ended { OnOk result (self.new ≡ record self.old { state = switched self.old.state empty_graph self.old.state.begun }) }
+        ensures ended { OnOk result (self.new ≡ with_state self.old
+            (switched self.old.state empty_graph self.old.state.begun)) }
         ensures refused { OnErr result (self.new ≡ self.old) }
     {
         let Some(begun) = &self.begun else {
@@ -237,8 +243,11 @@ impl TempIndex {
     /// The frozen graphs that the open merge takes, shared. The only error is want of memory.
     pub(crate) fn frozen_of_begin(&self) -> Result<Vec<Arc<Frozen>>, AllocError>
         requires { IsSome self.now.state.begun }
-        ensures graphs { IfOk result (λ graphs. MatchOption self.now.state.begun ⊥ (λ b. map (λ (f : FrozenShown). graph_of f.nodes) (map arc_value graphs.items) ≡ take b.frozen self.now.state.ros)) }
-        ensures params { IfOk result (λ graphs. All (λ (f : FrozenShown). f.params ≡ self.now.params) (map arc_value graphs.items)) }
+        ensures graphs { IfOk result (λ graphs. MatchOption self.now.state.begun ⊥
+            (λ b. map (λ (f : FrozenShown). graph_of f.nodes) (map arc_value graphs.items)
+            ≡ take b.frozen self.now.state.ros)) }
+        ensures params { IfOk result (λ graphs.
+            All (λ (f : FrozenShown). f.params ≡ self.now.params) (map arc_value graphs.items)) }
     {
         match &self.begun {
             Some(begun) => self.ros.first(begun.frozen()),

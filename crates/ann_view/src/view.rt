@@ -1,14 +1,12 @@
-ghost use Rattle.std.specs.Prelude.{◌≡◌, ◌<◌, ◌&&◌, false, None, Some, IsSome, IfOk, MatchOption, All, map, take, is_none};
+ghost use Rattle.std.specs.Prelude.{◌≡◌, ◌<◌, ◌&&◌, None, Some, IsSome, IfOk, MatchOption, All, map, take, is_none};
 ghost use Rattle.std.specs.Arc.{arc_value};
 ghost use Rattle.std.specs.Option.{option_map};
-ghost use Rattle.ann_types.specs.Graph.{empty_graph};
-ghost use Rattle.ann_types.specs.Fold.{start};
 ghost use Rattle.ann_types.specs.Legal.{has_work};
 ghost use Rattle.ann_table.specs.Node.{graph_of};
 ghost use Rattle.ann_frozen.specs.Frozen.{Shown as FrozenShown};
 ghost use Rattle.ann_segment.specs.Directory.{Item};
 ghost use Rattle.ann_view.specs.Temp.{IsTemp};
-ghost use Rattle.ann_view.specs.View.{IsView};
+ghost use Rattle.ann_view.specs.View.{IsView, opening};
 ghost use Rattle.ann_view.specs.Pinned.{pinned};
 
 use crate::pinned::Pinned;
@@ -51,7 +49,7 @@ impl<S: Sealed> View<S> {
     /// The view of the list without entries over the empty base. The only error is want of memory.
     pub fn new(alloc: Global, params: &Params, book: Arc<Codebook>) -> Result<View<S>, AllocError>
         requires book { (book.value.d ≡ params.now.d) × (book.value.m ≡ params.now.m) }
-        ensures { IfOk result (λ view. view ≡ record { params = params.now; book = book.value; at = 0; next = 0; memory = start empty_graph; segment = None; closed = false }) }
+        ensures { IfOk result (λ view. view ≡ opening params.now book.value 0 0 None) }
     {
         Ok(View {
             book,
@@ -76,7 +74,7 @@ impl<S: Sealed> View<S> {
         requires book { (book.value.d ≡ params.now.d) × (book.value.m ≡ params.now.m) }
         requires segment { segment.value.m ≡ params.now.m }
         requires below { All (λ (x : Item). x.0 < next) segment.value.items }
-        ensures { IfOk result (λ view. view ≡ record { params = params.now; book = book.value; at = at; next = next; memory = start empty_graph; segment = Some segment.value; closed = false }) }
+        ensures { IfOk result (λ view. view ≡ opening params.now book.value at next (Some segment.value)) }
     {
         segment.known();
         Ok(View {
@@ -107,8 +105,11 @@ impl<S: Sealed> View<S> {
     /// The frozen graphs that the open merge takes, the oldest first and shared. The only error is want of memory.
     pub fn frozen_of_begin(&self) -> Result<Vec<Arc<Frozen>>, AllocError>
         requires { IsSome self.now.memory.begun }
-        ensures graphs { IfOk result (λ graphs. MatchOption self.now.memory.begun ⊥ (λ b. map (λ (f : FrozenShown). graph_of f.nodes) (map arc_value graphs.items) ≡ take b.frozen self.now.memory.ros)) }
-        ensures params { IfOk result (λ graphs. All (λ (f : FrozenShown). f.params ≡ self.now.params) (map arc_value graphs.items)) }
+        ensures graphs { IfOk result (λ graphs. MatchOption self.now.memory.begun ⊥
+            (λ b. map (λ (f : FrozenShown). graph_of f.nodes) (map arc_value graphs.items)
+            ≡ take b.frozen self.now.memory.ros)) }
+        ensures params { IfOk result (λ graphs.
+            All (λ (f : FrozenShown). f.params ≡ self.now.params) (map arc_value graphs.items)) }
     {
         self.temp.frozen_of_begin()
     }

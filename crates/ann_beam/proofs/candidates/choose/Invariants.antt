@@ -11,7 +11,7 @@ invariant-loop-count l = record {
   few : l.count ≤ l.w;
   limit : l.guided.limit ≡ l.fn.guided.limit;
   far : (far : ℕ → ℕ) → AreFar far l.fn.guided.items → AreFar far l.guided.items;
-  rows : (count : ℕ) → AreRows count l.fn.guided.items → AreRows count l.guided.items;
+  among : (count : ℕ) → AreRows count l.fn.guided.items → AreRows count l.guided.items;
   inside : (count : ℕ) → AreRows count l.fn.guided.items → All (λ row. row < count) (take l.count l.rows);
   chosen : (far : ℕ → ℕ) (visited order : List ℕ) → Shows far visited order l.fn.guided → Choosing l.w (l.w - l.count) (take l.count l.rows) l.fn.guided l.guided far visited order;
 }

@@ -13,4 +13,4 @@ returns-else-not-contains-clause-points g c =
 
 pub returns-then-is_beyond-clause-points : goal.returns-then-is_beyond-clause-points
 returns-then-is_beyond-clause-points g c =
-    item_beyond (result_of c.args.desk.now).limit c.args.dead.now (row_point (g.G.Named.nodes c.args.graph.now) c.args.item) (result_of c.args.desk.now).points (c.is_beyond.ensures c.if-is_beyond.true (row_point (g.G.Named.nodes c.args.graph.now) c.args.item).pid (row_point (g.G.Named.nodes c.args.graph.now) c.args.item).tag)
+    item_beyond (result_of c.args.desk.now).limit c.args.dead.now (row_point (g.G.Named.nodes c.args.graph.now) c.args.item) (result_of c.args.desk.now).points (c.is_beyond.ensures.stays c.if-is_beyond.true (row_point (g.G.Named.nodes c.args.graph.now) c.args.item).pid (row_point (g.G.Named.nodes c.args.graph.now) c.args.item).tag)

@@ -1,5 +1,5 @@
 use Rattle.std.proofs.Common.{◌≡◌, ◌<◌, ◌∷◌, [], List, false, length, get_or, ap, ◌∙◌, subst}
-use Rattle.ann_pool.specs.Pool.{Shown as PoolShown}
+use Rattle.ann_pool.specs.Pool.{PoolView}
 use Rattle.ann_pool.specs.declared.item.Item.{Item}
 use Rattle.ann_beam.specs.Desk.{result_of}
 use Rattle.ann_beam.specs.Ranking.{with_all}
@@ -16,7 +16,7 @@ pub loop-place-preserved : goal.loop-place-preserved
 loop-place-preserved g c =
     let place = c.loop-place.place in
     let items : List Item = c.args.desk.now.pool.items in
-    let same : c.items.result.now ≡ items = c.items.ensures.items ∙ ap (λ (p : PoolShown). p.items) c.loop-place.invariant.pool in
+    let same : c.items.result.now ≡ items = c.items.ensures.items ∙ ap (λ (p : PoolView). p.items) c.loop-place.invariant.pool in
     let item : Item = get_or c.items.result.now place none in
     record {
       limit = c.add_item.ensures.limit ∙ c.loop-place.invariant.limit;

@@ -1,15 +1,10 @@
-use Rattle.std.proofs.Common.{◌≡◌, refl}
-use Rattle.ann_types.specs.Graph.{empty_graph}
-use Rattle.ann_beam.specs.Desk.{result_of}
+use Rattle.std.proofs.Common.{refl}
+use Rattle.std.specs.Arc.{arc_value}
+use Rattle.std.specs.Option.{option_map}
+use Rattle.ann_beam.proofs.Searches.{searched_none}
 use Rattle.ann_view.proofs.search.add_long_term.Goals as goal
 
 -- with no segment there is no long-term point
-pub returns-in_default-clause-found : goal.returns-in_default-clause-found
-returns-in_default-clause-found g c = λ tells lti holds.
-    let none : lti ≡ empty_graph = rw c.in_default.is at holds in
-    rw none (refl {a = (result_of c.args.desk.now).points})
-
-pub returns-in_default-clause-read : goal.returns-in_default-clause-read
-returns-in_default-clause-read g c = λ tells lti holds.
-    let none : lti ≡ empty_graph = rw c.in_default.is at holds in
-    rw none refl
+pub returns-in_default-clause-searched : goal.returns-in_default-clause-searched
+returns-in_default-clause-searched g c =
+    searched_none _ _ c.args.params.now c.args.book.now (g.D.Deleted.pids c.args.dead.now) c.args.ask.now.vector c.args.ask.now.l (option_map arc_value c.args.segment.now) _ tt (rw c.in_default.is refl)

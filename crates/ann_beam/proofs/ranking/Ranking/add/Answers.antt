@@ -1,7 +1,7 @@
 use Rattle.std.proofs.Common.{rules, ◌≡◌, ◌≤◌, ℕ, List, length, sym, ap, ap₂, ◌∙◌, subst, arith, take}
 use Rattle.std.specs.Prelude.{insert}
 use Rattle.ann_types.specs.declared.hit.Hit.{Hit}
-use Rattle.ann_beam.specs.Ranking.{IsRanked, Shown, Ranked, joined, with_ranked, ranked}
+use Rattle.ann_beam.specs.Ranking.{IsRanked, RankingView, Ranked, joined, with_ranked, ranked}
 use Rattle.ann_beam.proofs.Rankings.{added, order_joined}
 use Rattle.ann_beam.proofs.ranking.Ranking.add.Goals as goal
 
@@ -22,7 +22,7 @@ returns-clause-points c =
     (c.truncate.ensures.items ∙ ap₂ (λ (n : ℕ) (ps : List ℕ). take n ps) c.from.ensures one)
     (c.truncate-2.ensures.items ∙ ap₂ (λ (n : ℕ) (hs : List Hit). take n hs) c.from-2.ensures two)
     ∙ added c.self.inside.limit c.place_of-place.result c.args.pid hit pids.items hits.items same inside place
-    ∙ ap (λ (s : Shown). with_ranked s.limit x s.points) c.self.view_is
+    ∙ ap (λ (s : RankingView). with_ranked s.limit x s.points) c.self.view_is
 
 pub invariant_of-self : goal.invariant_of-self
 invariant_of-self c =

@@ -1,28 +1,32 @@
-use Rattle.std.proofs.Common.{◌∙◌}
-use Rattle.std.specs.Prelude.{Result, Ok, Err, IfErr}
-use Rattle.std.specs.Result.{IsErrAnd}
-use Rattle.ann_beam.specs.Desk.{result_of}
-use Rattle.ann_view.specs.Pinned.{kept}
-use Rattle.ann_view.specs.Stands.{lti_of}
-use Rattle.ann_view.proofs.Whole.{held_by, disk_hits, disk_reads, view_answer}
+use Rattle.std.proofs.Common.{◌≡◌, ◌∙◌, sym, ap, subst}
+use Rattle.ann_pq.specs.Codebook.{Shown as BookShown}
+use Rattle.ann_beam.specs.Quest.{Fits, quest_of}
+use Rattle.ann_beam.proofs.Searches.{searched_ok, searched_err}
+use Rattle.ann_view.specs.Pinned.{PinnedView, kept}
+use Rattle.ann_view.specs.Search.{quest_by}
+use Rattle.ann_view.proofs.Whole.{pin_answers}
 use Rattle.ann_view.proofs.pinned.Pinned.disk.Goals as goal
 
-pub returns-clause-found : goal.returns-clause-found
-returns-clause-found g c = λ tells view lti near holds.
-    disk_hits g.S.Sealed.bytes view c.args.ask.now c.args.self (kept c.self.inside.params c.self.inside.book c.self.inside.at c.self.inside.dead c.self.inside.segment) c.deref.result.now lti (result_of c.args.desk.now) (result_of c.add_long_term.new.desk).points near c.self.view_is c.deref.ensures holds (c.in_ok-add_long_term.ensures.found tells lti)
+pub add_long_term-requires : goal.add_long_term-requires
+add_long_term-requires g c =
+    let own = kept c.self.inside.params c.self.inside.book c.self.inside.at c.self.inside.dead c.self.inside.segment in
+    subst (λ (b : BookShown). Fits (quest_of own.segment own.params b own.dead c.args.ask.now)) (sym c.deref.ensures)
+    (record { width = c.requires.width ∙ ap (λ (p : PinnedView g.row.S.Denot). p.params.d) (sym c.self.view_is); book = c.self.invariant.book; codes = c.self.invariant.codes })
 
-pub returns-clause-answer : goal.returns-clause-answer
-returns-clause-answer g c = λ tells view h near stands holds.
-    returns-clause-found g c tells view (lti_of view h) near holds ∙ view_answer g.S.Sealed.bytes view c.args.ask.now near.sound h stands
+pub returns-clause-searched : goal.returns-clause-searched
+returns-clause-searched g c =
+    let own = kept c.self.inside.params c.self.inside.book c.self.inside.at c.self.inside.dead c.self.inside.segment in
+    let same : quest_of own.segment own.params c.deref.result.now own.dead c.args.ask.now ≡ quest_by c.args.self c.args.ask.now =
+    ap (λ (b : BookShown). quest_of own.segment own.params b own.dead c.args.ask.now) c.deref.ensures ∙ ap (λ (p : PinnedView g.row.S.Denot). quest_by p c.args.ask.now) c.self.view_is in
+    searched_ok _ _ _ _ _ _ _ _ same c.in_ok-add_long_term.ensures.searched
 
-pub returns-clause-read : goal.returns-clause-read
-returns-clause-read g c = λ tells lti holds.
-    disk_reads g.S.Sealed.bytes c.args.ask.now c.args.self (kept c.self.inside.params c.self.inside.book c.self.inside.at c.self.inside.dead c.self.inside.segment) c.deref.result.now lti (g.E.Eye.reads c.args.eye.now) (g.E.Eye.reads c.add_long_term.new.eye) c.self.view_is c.deref.ensures holds (c.in_ok-add_long_term.ensures.read tells lti)
+pub returns-in_err-add_long_term-clause-searched : goal.returns-in_err-add_long_term-clause-searched
+returns-in_err-add_long_term-clause-searched g c =
+    let own = kept c.self.inside.params c.self.inside.book c.self.inside.at c.self.inside.dead c.self.inside.segment in
+    let same : quest_of own.segment own.params c.deref.result.now own.dead c.args.ask.now ≡ quest_by c.args.self c.args.ask.now =
+    ap (λ (b : BookShown). quest_of own.segment own.params b own.dead c.args.ask.now) c.deref.ensures ∙ ap (λ (p : PinnedView g.row.S.Denot). quest_by p c.args.ask.now) c.self.view_is in
+    searched_err {T = Unit {0}} _ _ _ _ _ _ _ c.from_residual.result same c.from_residual.ensures.1 c.in_err-add_long_term.ensures.searched
 
-pub returns-in_err-add_long_term-clause-sound : goal.returns-in_err-add_long_term-clause-sound
-returns-in_err-add_long_term-clause-sound g c = λ tells lti holds.
-    refused_as c.from_residual.result (c.from_residual.ensures.1) (λ why same. same ∙ c.in_err-add_long_term.ensures.sound tells lti (held_by g.S.Sealed.bytes c.args.self (kept c.self.inside.params c.self.inside.book c.self.inside.at c.self.inside.dead c.self.inside.segment) c.deref.result.now lti c.self.view_is c.deref.ensures holds))
-  where
-    refused_as : {T E : Type 0} {P Q : E → Type 0} (r : Result T E) → IsErrAnd r P → ((e : E) → P e → Q e) → IfErr r Q
-    refused_as (Ok x) p f = tt
-    refused_as (Err e) p f = f e p
+pub returns-clause-answered : goal.returns-clause-answered
+returns-clause-answered g c = λ tells view near.
+    pin_answers g.S.Sealed.bytes view c.args.ask.now c.args.self _ _ near (λ lti holds. (returns-clause-searched g c).found.held tells lti holds)
