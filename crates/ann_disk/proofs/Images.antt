@@ -58,19 +58,12 @@ free_before marks at n i free = ⊎_elim
 free_clean : (bytes : List ℕ) (i : ℕ) → i < length bytes → IsFree (replicate (length bytes) false) i
 free_clean bytes i here = get_or-replicate (length bytes) i false true here
 
--- a write and a cut add images
+-- a write adds images
 pub write_keeps : (u : Unsynced) (at n : ℕ) → EachImage (IsImage (after_write at n u)) u
 write_keeps u at n image is = record {
   no_shorter = is.no_shorter;
   no_longer = omega (arith, is.no_longer);
   stays = λ i here there free. is.stays i here there (free_before u.covered at n i free);
-}
-
-pub cut_keeps : (u : Unsynced) (to : ℕ) → EachImage (IsImage (after_cut to u)) u
-cut_keeps u to image is = record {
-  no_shorter = omega (arith, is.no_shorter);
-  no_longer = is.no_longer;
-  stays = is.stays;
 }
 
 pub length-overwritten : (s : List ℕ) (at : ℕ) (piece : List ℕ) → at ≤ length s → length (overwritten s at piece) ≡ max (length s) (at + length piece)

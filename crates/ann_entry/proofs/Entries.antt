@@ -29,16 +29,10 @@ read_more d bytes start at entries entry read stands =
     ∙ sym (append_assoc (entries_bytes entries) (entry_bytes entry) (drop (at + length (entry_bytes entry)) bytes))
     ∙ ap (λ t. t ++ drop (at + length (entry_bytes entry)) bytes) (sym (entries_push entries entry))
 
--- Where the bytes from a place on are those of entries, the first one stands there, and the others follow it.
+-- Where the bytes from a place on are those of entries, the first one stands there.
 pub first_stands : (d : ℕ) (bytes : List ℕ) (at : ℕ) (entry : Entry) (entries : List Entry) (rest : List ℕ) → IsEntry d entry → drop at bytes ≡ entries_bytes (entry ∷ entries) ++ rest → StandsAt d bytes at entry
 first_stands d bytes at entry entries rest fits same =
     record { fits = fits; rest = entries_bytes entries ++ rest; begins = same ∙ append_assoc (entry_bytes entry) (entries_bytes entries) rest }
-
-pub others_follow : (bytes : List ℕ) (at : ℕ) (entry : Entry) (entries : List Entry) (rest : List ℕ) → drop at bytes ≡ entries_bytes (entry ∷ entries) ++ rest → drop (at + length (entry_bytes entry)) bytes ≡ entries_bytes entries ++ rest
-others_follow bytes at entry entries rest same =
-    sym (drop-drop (length (entry_bytes entry)) at bytes)
-    ∙ ap (drop (length (entry_bytes entry))) (same ∙ append_assoc (entry_bytes entry) (entries_bytes entries) rest)
-    ∙ drop_at (entry_bytes entry) (entries_bytes entries ++ rest) (length (entry_bytes entry)) refl
 
 -- An entry that is written behind written entries is one more of them.
 pub written_more : (bytes : List ℕ) (start at : ℕ) (entries : List Entry) (entry : Entry) → at ≡ start + length (entries_bytes entries) → at + length (entry_bytes entry) ≤ length bytes → with_field (with_field bytes start (entries_bytes entries)) at (entry_bytes entry) ≡ with_field bytes start (entries_bytes (entries ++ entry ∷ []))

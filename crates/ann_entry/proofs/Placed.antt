@@ -10,7 +10,8 @@ use Rattle.ann_entry.specs.declared.entry_refused.EntryRefused.TheVariants as re
 use Rattle.ann_entry.specs.EntryBytes.{IsInRange, HasComponents, entry_bytes}
 use Rattle.ann_entry.specs.Standing.{StandsAt, IsOtherKind, EndsWithin}
 use Rattle.ann_entry.specs.Kinds.{kind_byte, kind_size, kind_of, IsNoKind}
-use Rattle.ann_entry.proofs.Spelled.{AreBytes, bytes_append, zeros_small, bytes_drop, entry_of, spelled, one_kind, kind_range, first_byte, length_entry, at_least_five, spelled_whole, spelled_fits}
+use Rattle.ann_bytes.proofs.Numbered.{IsBytes, drop_bytes}
+use Rattle.ann_entry.proofs.Spelled.{bytes_append, zeros_small, entry_of, spelled, one_kind, kind_range, first_byte, length_entry, at_least_five, spelled_whole, spelled_fits}
 use Rattle.ann_entry.proofs.Fronts.{one_entry, one_rest}
 
 -- an entry that was written stands there
@@ -88,7 +89,7 @@ module _ (d : ℕ) (bytes : List ℕ) (at : ℕ) where
 
   -- ---- a kind that stands there
 
-  module _ (small : AreBytes bytes) (kind : Kind) (is : kind_byte kind ≡ get_or bytes at 0) where
+  module _ (small : IsBytes bytes) (kind : Kind) (is : kind_byte kind ≡ get_or bytes at 0) where
     head : kind_byte kind ≡ get_or (drop at bytes) 0 0
     head = is ∙ sym (first_of_drop)
 
@@ -98,9 +99,9 @@ module _ (d : ℕ) (bytes : List ℕ) (at : ℕ) where
         let left = length-drop at bytes in
         let enough : kind_size kind d ≤ length (drop at bytes) = omega (arith, left, fits) in
         record {
-          fits = spelled_fits d (drop at bytes) (bytes_drop at bytes small) kind enough;
+          fits = spelled_fits d (drop at bytes) (drop_bytes at bytes small) kind enough;
           rest = drop (kind_size kind d) (drop at bytes);
-          begins = spelled_whole d (drop at bytes) (bytes_drop at bytes small) kind head enough;
+          begins = spelled_whole d (drop at bytes) (drop_bytes at bytes small) kind head enough;
         }
 
     pub size_whole : (entry : Entry) → StandsAt d bytes at entry → length (entry_bytes entry) ≡ kind_size kind d
@@ -121,7 +122,7 @@ module _ (d : ℕ) (bytes : List ℕ) (at : ℕ) where
         let whole : List ℕ = drop at bytes ++ zeros in
         let size : length whole ≡ kind_size kind d = (let parts = length-append (drop at bytes) zeros in omega (arith, parts, more, left, inside, few)) in
         let first : kind_byte kind ≡ get_or whole 0 0 = head ∙ sym (get_or_append_left (drop at bytes) zeros 0 0 (omega (arith, left, inside))) in
-        let are : AreBytes whole = bytes_append (drop at bytes) zeros (bytes_drop at bytes small) (zeros_small missing) in
+        let are : IsBytes whole = bytes_append (drop at bytes) zeros (drop_bytes at bytes small) (zeros_small missing) in
         record {
           entry = spelled kind d whole;
           fits = spelled_fits d whole are kind (omega (arith, size));

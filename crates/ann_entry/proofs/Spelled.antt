@@ -1,7 +1,8 @@
 -- An entry and its fields: the entry that bytes of a kind spell, and the bytes of an entry.
-use Rattle.std.proofs.Common.{◌≡◌, ℕ, zero, suc, ◌+◌, ◌<◌, ◌≤◌, ◌^◌, List, [], ◌∷◌, ◌++◌, ◌==◌, length, get_or, take, drop, replicate, cond, refl, sym, ap, subst, ◌∙◌, arith, length-drop}
-use Rattle.std.proofs.lemmas.List.{take-append-drop, drop-drop, drop_more, get_or-drop, take_at, length-take-le}
+use Rattle.std.proofs.Common.{◌≡◌, ℕ, zero, suc, ◌+◌, ◌<◌, ◌≤◌, ◌^◌, List, [], ◌∷◌, ◌++◌, ◌==◌, length, get_or, take, drop, replicate, cond, refl, sym, ap, subst, ◌∙◌, arith}
+use Rattle.std.proofs.lemmas.List.{take-append-drop, drop-drop, drop_more, take_at}
 use Rattle.ann_bytes.specs.LittleEndian.{number_of, bytes_of, field}
+use Rattle.ann_bytes.proofs.Numbered.{IsBytes, length-field, field_bytes}
 use Rattle.ann_bytes.proofs.Numbers.{number_of-bytes_of, bytes_of-number_of, number_of_below}
 use Rattle.ann_types.specs.declared.entry.Entry.{Entry}
 use Rattle.ann_types.specs.declared.entry.Entry.TheVariants.{Insert, Delete, Begin, End, Replace}
@@ -91,50 +92,31 @@ spelled_again d (Replace by tag vector) rest fits =
 
 -- ---- the entry of bytes
 
--- each number of the list is that of a byte
-abbrev pub AreBytes : List ℕ → Type 0
-AreBytes bytes = (i : ℕ) → get_or bytes i 0 < 256
-
-bytes_take : (n : ℕ) (bytes : List ℕ) → AreBytes bytes → AreBytes (take n bytes)
-bytes_take zero bytes small i = omega arith
-bytes_take (suc n) [] small i = omega arith
-bytes_take (suc n) (byte ∷ bytes) small zero = small 0
-bytes_take (suc n) (byte ∷ bytes) small (suc i) = bytes_take n bytes (λ j. small (suc j)) i
-
-pub bytes_drop : (n : ℕ) (bytes : List ℕ) → AreBytes bytes → AreBytes (drop n bytes)
-bytes_drop n bytes small i = let same = get_or-drop n bytes i 0 in omega (arith, same, small (n + i))
-
-pub bytes_append : (front rest : List ℕ) → AreBytes front → AreBytes rest → AreBytes (front ++ rest)
+pub bytes_append : (front rest : List ℕ) → IsBytes front → IsBytes rest → IsBytes (front ++ rest)
 bytes_append [] rest front_small rest_small i = rest_small i
 bytes_append (byte ∷ front) rest front_small rest_small zero = front_small 0
 bytes_append (byte ∷ front) rest front_small rest_small (suc i) = bytes_append front rest (λ j. front_small (suc j)) rest_small i
 
-pub zeros_small : (n : ℕ) → AreBytes (replicate n 0)
+pub zeros_small : (n : ℕ) → IsBytes (replicate n 0)
 zeros_small zero i = omega arith
 zeros_small (suc n) zero = omega arith
 zeros_small (suc n) (suc i) = zeros_small n i
-
-field_small : (bytes : List ℕ) (at n : ℕ) → AreBytes bytes → AreBytes (field bytes at n)
-field_small bytes at n small = bytes_take n (drop at bytes) (bytes_drop at bytes small)
-
-field_length : (bytes : List ℕ) (at n : ℕ) → at + n ≤ length bytes → length (field bytes at n) ≡ n
-field_length bytes at n fits = length-take-le n (drop at bytes) (omega (arith, length-drop at bytes, fits))
 
 -- the bytes from a place on are a field and those behind it
 cut : (bytes : List ℕ) (at n : ℕ) → drop at bytes ≡ field bytes at n ++ drop (at + n) bytes
 cut bytes at n = sym (take-append-drop n (drop at bytes)) ∙ ap (λ t. field bytes at n ++ t) (drop-drop n at bytes)
 
-number_below : (bytes : List ℕ) (at n : ℕ) → AreBytes bytes → at + n ≤ length bytes → number_of (field bytes at n) < 256 ^ n
+number_below : (bytes : List ℕ) (at n : ℕ) → IsBytes bytes → at + n ≤ length bytes → number_of (field bytes at n) < 256 ^ n
 number_below bytes at n small fits =
-    subst (λ (k : ℕ). number_of (field bytes at n) < 256 ^ k) (field_length bytes at n fits) (number_of_below (field bytes at n) (field_small bytes at n small))
+    subst (λ (k : ℕ). number_of (field bytes at n) < 256 ^ k) (length-field bytes at n fits) (number_of_below (field bytes at n) (field_bytes bytes at n small))
 
-number_cut : (bytes : List ℕ) (at n : ℕ) → AreBytes bytes → at + n ≤ length bytes → drop at bytes ≡ bytes_of n (number_of (field bytes at n)) ++ drop (at + n) bytes
+number_cut : (bytes : List ℕ) (at n : ℕ) → IsBytes bytes → at + n ≤ length bytes → drop at bytes ≡ bytes_of n (number_of (field bytes at n)) ++ drop (at + n) bytes
 number_cut bytes at n small fits =
     cut bytes at n
-    ∙ ap (λ t. t ++ drop (at + n) bytes) (sym (bytes_of-number_of (field bytes at n) (field_small bytes at n small)))
-    ∙ ap (λ k. bytes_of k (number_of (field bytes at n)) ++ drop (at + n) bytes) (field_length bytes at n fits)
+    ∙ ap (λ t. t ++ drop (at + n) bytes) (sym (bytes_of-number_of (field bytes at n) (field_bytes bytes at n small)))
+    ∙ ap (λ k. bytes_of k (number_of (field bytes at n)) ++ drop (at + n) bytes) (length-field bytes at n fits)
 
-module _ (d : ℕ) (bytes : List ℕ) (small : AreBytes bytes) where
+module _ (d : ℕ) (bytes : List ℕ) (small : IsBytes bytes) where
   by_front : (first : ℕ) → first ≡ get_or bytes 0 0 → 5 ≤ length bytes → bytes ≡ first ∷ bytes_of 4 (number_of (field bytes 1 4)) ++ drop 5 bytes
   by_front first is fits =
       drop_more bytes 0 0 (omega (arith, fits))
@@ -161,11 +143,11 @@ module _ (d : ℕ) (bytes : List ℕ) (small : AreBytes bytes) where
   spelled_whole kinds.Replace is fits = point_front 5 is fits
 
   pub spelled_fits : (kind : Kind) → kind_size kind d ≤ length bytes → IsEntry d (spelled kind d bytes)
-  spelled_fits kinds.Insert fits = record { numbers = (number_below bytes 1 4 small (omega (arith, fits)), number_below bytes 5 8 small (omega (arith, fits))); components = field_length bytes 13 d fits }
+  spelled_fits kinds.Insert fits = record { numbers = (number_below bytes 1 4 small (omega (arith, fits)), number_below bytes 5 8 small (omega (arith, fits))); components = length-field bytes 13 d fits }
   spelled_fits kinds.Delete fits = record { numbers = (number_below bytes 1 4 small (omega (arith, fits)), number_below bytes 5 8 small fits); components = tt }
   spelled_fits kinds.Begin fits = record { numbers = number_below bytes 1 4 small fits; components = tt }
   spelled_fits kinds.End fits = record { numbers = (number_below bytes 1 4 small (omega (arith, fits)), number_below bytes 5 8 small fits); components = tt }
-  spelled_fits kinds.Replace fits = record { numbers = (number_below bytes 1 4 small (omega (arith, fits)), number_below bytes 5 8 small (omega (arith, fits))); components = field_length bytes 13 d fits }
+  spelled_fits kinds.Replace fits = record { numbers = (number_below bytes 1 4 small (omega (arith, fits)), number_below bytes 5 8 small (omega (arith, fits))); components = length-field bytes 13 d fits }
 
 pub kind_spelled : (kind : Kind) (d : ℕ) (bytes : List ℕ) → kind_of (spelled kind d bytes) ≡ kind
 kind_spelled kinds.Insert d bytes = refl

@@ -4,6 +4,7 @@ use Rattle.std.specs.List.{AllByRecursion}
 use Rattle.std.proofs.lemmas.Bool.Decides.{nat_tests}
 use Rattle.std.proofs.lemmas.List.{append-nil, take_at, drop_at}
 use Rattle.ann_bytes.specs.LittleEndian.{field}
+use Rattle.ann_bytes.proofs.Numbered.{IsBytes, take_bytes, drop_bytes}
 use Rattle.ann_bytes.proofs.Numbers.{number_of-bytes_of}
 use Rattle.ann_types.specs.declared.entry.Entry.{Entry}
 use Rattle.ann_types.specs.declared.entry.Entry.TheVariants.{Insert, Delete, Begin, End, Replace}
@@ -11,11 +12,10 @@ use Rattle.ann_entry.specs.EntryBytes.{IsEntry, entry_bytes, entries_bytes}
 use Rattle.ann_entry.specs.Kinds.{kind_byte, kind_size, kind_of}
 use Rattle.ann_entry.proofs.Fronts.{length_entries}
 use Rattle.ann_entry.proofs.Placed.{stands_whole}
-use Rattle.ann_entry.proofs.Spelled.{AreBytes, spelled, first_byte, length_entry, spelled_again, bytes_drop}
+use Rattle.ann_entry.proofs.Spelled.{spelled, first_byte, length_entry, spelled_again}
 use Rattle.ann_frame.specs.Frames.{AreEntries, IsFrame, frame_bytes, frames_bytes, entries_of}
 use Rattle.ann_frame.specs.Text.{StandFor, NoEntry, size_of, IsBroken, IsBadAt}
 use Rattle.ann_frame.specs.TextOf.{Text, stands, bad, front_entry, has_entry, whole_entries, entries_in, is_whole, frames_text, text_of, AgreesWith}
-use Rattle.ann_frame.proofs.Steps.{take_small}
 
 is_false : (b : Bool) → (b ≡ true → ⊥) → b ≡ false
 is_false true never = absurd (never refl)
@@ -56,7 +56,7 @@ module _ (d : ℕ) where
         ap (λ e. (get_or written 0 0 == kind_byte (kind_of e)) && nat_le (kind_size (kind_of e) d) (length written)) entry_same
         ∙ both_hold (get_or written 0 0) (kind_byte (kind_of entry)) (kind_size (kind_of entry) d) (length written) (first_byte entry rest) long
 
-  no_entry : (bytes : List ℕ) → AreBytes bytes → NoEntry d bytes → has_entry d bytes ≡ false
+  no_entry : (bytes : List ℕ) → IsBytes bytes → NoEntry d bytes → has_entry d bytes ≡ false
   no_entry bytes small none =
       is_false (has_entry d bytes) (λ holds.
       let kind = kind_of (front_entry d bytes) in
@@ -141,7 +141,7 @@ module _ (d : ℕ) where
   shut_end : (p : ℕ) (x : List ℕ) → p ≢ 1 → (m : ℕ) (sofar : List Entry) (at : ℕ) → frames_text (suc m) d sofar at (p ∷ x) ≡ stands sofar at
   shut_end p x shut m sofar at = grind (arith, nat_tests, shut)
 
-  module _ (tail : List ℕ) (small : AreBytes tail) (n : ℕ) (broken : IsBroken d tail n) where
+  module _ (tail : List ℕ) (small : IsBytes tail) (n : ℕ) (broken : IsBroken d tail n) where
     abbrev part : List ℕ
     part = field tail 4 (size_of tail)
 
@@ -152,10 +152,10 @@ module _ (d : ℕ) where
         let most = length-take (size_of tail) (drop 4 tail) in
         omega (arith, same, whole, most)
 
-    rest_small : AreBytes broken.rest
+    rest_small : IsBytes broken.rest
     rest_small =
-        subst AreBytes (ap (drop (length (entries_bytes broken.entries))) broken.begins ∙ drop_at (entries_bytes broken.entries) broken.rest (length (entries_bytes broken.entries)) refl)
-        (bytes_drop (length (entries_bytes broken.entries)) part (take_small (size_of tail) (drop 4 tail) (bytes_drop 4 tail small)))
+        subst IsBytes (ap (drop (length (entries_bytes broken.entries))) broken.begins ∙ drop_at (entries_bytes broken.entries) broken.rest (length (entries_bytes broken.entries)) refl)
+        (drop_bytes (length (entries_bytes broken.entries)) part (take_bytes (size_of tail) (drop 4 tail) (drop_bytes 4 tail small)))
 
     found : entries_in d tail ≡ broken.entries
     found =
@@ -195,7 +195,7 @@ module _ (d : ℕ) where
         ∙ ap (λ (e : List Entry). stands e (0 + length (frames_bytes frames))) (sym is.frames.joined)
         ∙ ap (λ (k : ℕ). stands entries k) (let place = is.place in let size = ap length is.frames.spelled in omega (arith, place, size))
 
-    pub text_bad : (n : ℕ) → AreBytes bytes → IsBadAt d bytes n → text_of d bytes ≡ bad n
+    pub text_bad : (n : ℕ) → IsBytes bytes → IsBadAt d bytes n → text_of d bytes ≡ bad n
     text_bad n small is =
         let frames = is.frames.frames in
         ap (text_of d) (is.cut ∙ ap (λ t. t ++ 1 ∷ is.tail) is.frames.spelled)
@@ -203,12 +203,12 @@ module _ (d : ℕ) where
         ∙ ap (λ (e : List Entry). bad (length e + is.within)) (sym is.frames.joined)
         ∙ ap bad (sym is.place)
       where
-        tail_small : AreBytes is.tail
+        tail_small : IsBytes is.tail
         tail_small =
-            subst AreBytes
+            subst IsBytes
             (ap (drop (length is.front + 1)) (is.cut ∙ sym (append_assoc is.front (1 ∷ []) is.tail))
             ∙ drop_at (is.front ++ 1 ∷ []) is.tail (length is.front + 1) (length-append is.front (1 ∷ [])))
-            (bytes_drop (length is.front + 1) bytes small)
+            (drop_bytes (length is.front + 1) bytes small)
 
-  pub text_agrees : (bytes : List ℕ) → AreBytes bytes → AgreesWith d bytes (text_of d bytes)
+  pub text_agrees : (bytes : List ℕ) → IsBytes bytes → AgreesWith d bytes (text_of d bytes)
   text_agrees bytes small = record { stood = text_stands bytes; refused = λ n is. text_bad bytes n small is }

@@ -9,7 +9,8 @@ use Rattle.ann_entry.specs.EntryBytes.{IsEntry, HasComponents, entry_bytes, entr
 use Rattle.ann_entry.proofs.Entries.{entries_push, written_more}
 use Rattle.ann_entry.proofs.Writes.{with_field_twice}
 use Rattle.ann_frame.specs.Frames.{AreEntries, HaveComponents}
-use Rattle.ann_frame.proofs.Each.{all_append, all_at}
+use Rattle.ann_types.proofs.Sets.{all_append}
+use Rattle.ann_frame.proofs.Each.{all_at}
 
 size_most : (d : ℕ) (entry : Entry) → HasComponents d entry → length (entry_bytes entry) ≤ 13 + d
 unfolding entry_bytes

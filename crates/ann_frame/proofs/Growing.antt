@@ -5,10 +5,7 @@ use Rattle.std.proofs.lemmas.List.{append-nil}
 use Rattle.ann_types.specs.declared.entry.Entry.{Entry}
 use Rattle.ann_frame.specs.Frames.{IsFrame, AreFrames, frame_bytes, frames_bytes, entries_of}
 use Rattle.ann_frame.specs.Text.{StandFor}
-use Rattle.ann_frame.proofs.Each.{all_append}
-
-pub no_frames : (d : ℕ) → AreFrames d [] []
-no_frames d = record { frames = []; each = tt; spelled = refl; joined = refl }
+use Rattle.ann_types.proofs.Sets.{all_append}
 
 module _ (d : ℕ) (front : List ℕ) (entries : List Entry) (is : AreFrames d front entries) where
   -- with one more frame behind an open gate they have its entries too

@@ -1,19 +1,20 @@
 -- The steps of reading.
-use Rattle.std.proofs.Common.{◌≡◌, ◌≢◌, ◌⊎◌, ℕ, zero, suc, ◌+◌, ◌-◌, ◌<◌, ◌≤◌, ◌^◌, List, [], ◌∷◌, ◌++◌, length, get_or, take, drop, refl, sym, ap, subst, ◌∙◌, arith, inl, append_assoc, length-append, length-drop, take-append-drop}
+use Rattle.std.proofs.Common.{◌≡◌, ◌≢◌, ◌⊎◌, ℕ, ◌+◌, ◌-◌, ◌<◌, ◌≤◌, ◌^◌, List, [], ◌∷◌, ◌++◌, length, get_or, take, drop, refl, sym, ap, subst, ◌∙◌, arith, inl, append_assoc, length-append, length-drop, take-append-drop}
 use Rattle.std.proofs.lemmas.List.{append-nil, drop-drop, drop_all, drop_more, get_or-drop, take_at, take_all, length-take-le}
 use Rattle.ann_bytes.specs.LittleEndian.{number_of, bytes_of, field}
+use Rattle.ann_bytes.proofs.Numbered.{IsBytes, take_bytes}
 use Rattle.ann_bytes.proofs.Numbers.{bytes_of-number_of, number_of_below}
 use Rattle.ann_types.specs.declared.entry.Entry.{Entry}
 use Rattle.ann_entry.specs.EntryBytes.{IsEntry, entry_bytes, entries_bytes}
 use Rattle.ann_entry.specs.Standing.{StandsAt}
 use Rattle.ann_entry.proofs.Entries.{read_more}
-use Rattle.ann_entry.proofs.Spelled.{AreBytes, at_least_five}
+use Rattle.ann_entry.proofs.Spelled.{at_least_five}
 use Rattle.ann_frame.specs.Frames.{AreFrames, frame_bytes}
 use Rattle.ann_frame.specs.Text.{StandFor, NoEntry, size_of}
 use Rattle.ann_frame.specs.Found.{HasEntries, HasFrame, IsRefusedFrame, AreRefused}
 use Rattle.ann_frame.specs.declared.frames_refused.FramesRefused.{FramesRefused}
 use Rattle.ann_frame.specs.declared.frames_refused.FramesRefused.TheVariants.{Bad, Memory}
-use Rattle.ann_frame.proofs.Each.{all_append}
+use Rattle.ann_types.proofs.Sets.{all_append}
 use Rattle.ann_frame.proofs.Growing.{frames_grow}
 
 -- ---- entries
@@ -30,9 +31,6 @@ none_past d bytes at past = none_short d (drop at bytes) (omega (arith, length-d
 pub none_at : (d : ℕ) (bytes : List ℕ) (at : ℕ) → ((entry : Entry) → StandsAt d bytes at entry → ⊥) → NoEntry d (drop at bytes)
 none_at d bytes at none entry stands = none entry (record { fits = stands.fits; rest = stands.rest; begins = stands.begins })
 
-pub nothing_read : (d : ℕ) (bytes : List ℕ) (before : List Entry) → HasEntries d bytes 0 before before
-nothing_read d bytes before = record { entries = []; each = tt; added = sym (append-nil before); begins = refl; within = omega arith }
-
 -- one more entry
 pub read_next : (d : ℕ) (bytes : List ℕ) (at next : ℕ) (before now : List Entry) (entry : Entry) → HasEntries d bytes at before now → at < length bytes → StandsAt d bytes at entry → next ≡ at + length (entry_bytes entry) → HasEntries d bytes next before (now ++ entry ∷ [])
 read_next d bytes at next before now entry read inside stands after = record {
@@ -48,16 +46,10 @@ read_next d bytes at next before now entry read inside stands after = record {
 
 -- ---- a frame
 
-pub take_small : (n : ℕ) (bytes : List ℕ) → AreBytes bytes → AreBytes (take n bytes)
-take_small zero bytes small i = omega arith
-take_small (suc n) [] small i = omega arith
-take_small (suc n) (byte ∷ bytes) small zero = small 0
-take_small (suc n) (byte ∷ bytes) small (suc i) = take_small n bytes (λ j. small (suc j)) i
-
 module _ (d : ℕ) (tail : List ℕ) (size : ℕ) (is : size ≡ size_of tail) (part : List ℕ) (part_is : part ≡ field tail 4 size) where
   module _ (end : ℕ) (before after : List Entry) (read : HasEntries d part end before after) where
     -- the frame is whole
-    module _ (small : AreBytes tail) (fits : 4 + size < length tail) (some : 0 < size) (filled : length part ≤ end) where
+    module _ (small : IsBytes tail) (fits : 4 + size < length tail) (some : 0 < size) (filled : length part ≤ end) where
       body : part ≡ entries_bytes read.entries
       body =
           read.begins
@@ -73,12 +65,12 @@ module _ (d : ℕ) (tail : List ℕ) (size : ℕ) (is : size ≡ size_of tail) (
       size_below : size < 256 ^ 4
       size_below =
           subst (λ (n : ℕ). n < 256 ^ 4) (sym is)
-          (subst (λ (k : ℕ). number_of (take 4 tail) < 256 ^ k) four (number_of_below (take 4 tail) (take_small 4 tail small)))
+          (subst (λ (k : ℕ). number_of (take 4 tail) < 256 ^ k) four (number_of_below (take 4 tail) (take_bytes 4 tail small)))
 
       length_front : tail ≡ bytes_of 4 size ++ drop 4 tail
       length_front =
           sym (take-append-drop 4 tail)
-          ∙ ap (λ t. t ++ drop 4 tail) (sym (bytes_of-number_of (take 4 tail) (take_small 4 tail small)))
+          ∙ ap (λ t. t ++ drop 4 tail) (sym (bytes_of-number_of (take 4 tail) (take_bytes 4 tail small)))
           ∙ ap (λ (k : ℕ). bytes_of k (number_of (take 4 tail)) ++ drop 4 tail) four
           ∙ ap (λ (n : ℕ). bytes_of 4 n ++ drop 4 tail) (sym is)
 

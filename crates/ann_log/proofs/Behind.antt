@@ -2,7 +2,7 @@
 use Rattle.std.proofs.Common.{◌≡◌, ℕ, ◌-◌, ◌*◌, ◌≤◌, ◌<◌, ◌^◌, List, length, drop, Option, Some, refl, ap, ◌∙◌, arith, length-drop}
 use Rattle.ann_preamble.specs.Preamble.{Said, preamble_of}
 use Rattle.ann_preamble.proofs.Agreed.{sound_in}
-use Rattle.ann_entry.proofs.Spelled.{AreBytes, bytes_drop}
+use Rattle.ann_bytes.proofs.Numbered.{IsBytes, drop_bytes}
 use Rattle.ann_frame.specs.Text.{StandFor}
 use Rattle.ann_frame.specs.Found.{AreRefused}
 use Rattle.ann_frame.specs.declared.reading.Frames.{Frames}
@@ -36,8 +36,8 @@ module _ (bytes : List ℕ) (s : Said) (says : preamble_of bytes ≡ Some s) whe
       omega (arith, small, less, left, long)
   in_reach framed.Memory long refused = tt
 
-  pub refused_text : (why : FramesRefused) → AreBytes bytes → AreRefused s.fields.d (drop (first_gate s) bytes) why → IsRefused (text_with (preamble_of bytes) bytes) (refusal_of s.fields.base.position why)
+  pub refused_text : (why : FramesRefused) → IsBytes bytes → AreRefused s.fields.d (drop (first_gate s) bytes) why → IsRefused (text_with (preamble_of bytes) bytes) (refusal_of s.fields.base.position why)
   refused_text (framed.Bad entry) small refused =
       ap (λ (p : Option Said). text_with p bytes) says
-      ∙ ap (behind s) (text_bad s.fields.d (drop (first_gate s) bytes) entry (bytes_drop (first_gate s) bytes small) refused)
+      ∙ ap (behind s) (text_bad s.fields.d (drop (first_gate s) bytes) entry (drop_bytes (first_gate s) bytes small) refused)
   refused_text framed.Memory small refused = tt

@@ -5,7 +5,7 @@ use Rattle.ann_disk.specs.declared.file.LogFile.{Ghosts}
 use Rattle.ann_preamble.specs.declared.choice.Side.{Side}
 use Rattle.ann_preamble.specs.declared.choice.Side.TheVariants.{First, Second}
 use Rattle.ann_log.specs.LogView.{files_in}
-use Rattle.ann_log.specs.Causes.{AreCalm, HaveFault, AreCausedBy}
+use Rattle.ann_log.specs.Causes.{AreCalm, HaveFault}
 use Rattle.ann_log.specs.declared.files.Files.{Files}
 
 module _ {F : Type 0} (D : Ghosts F) (old mid new : Files F) (before : AreCalm D old mid) where
@@ -15,9 +15,6 @@ module _ {F : Type 0} (D : Ghosts F) (old mid new : Files F) (before : AreCalm D
   pub fault_behind : HaveFault D mid new → HaveFault D old new
   fault_behind (inl is) = inl (is.0 ∙ ap next_count before.first, is.1 ∙ before.second)
   fault_behind (inr is) = inr (is.0 ∙ before.first, is.1 ∙ ap next_count before.second)
-
-  pub caused_behind : (is_fault : Type 0) → AreCausedBy D mid new is_fault → AreCausedBy D old new is_fault
-  caused_behind is_fault is = record { fault = λ so. fault_behind (is.fault so); calm = λ no. calm_behind (is.calm no) }
 
 -- calls of the file beside the log's
 module _ {F : Type 0} (D : Ghosts F) where

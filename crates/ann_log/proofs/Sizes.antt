@@ -8,7 +8,7 @@ use Rattle.ann_entry.specs.EntryBytes.{IsEntry, entries_bytes}
 use Rattle.ann_entry.proofs.Fronts.{length_entries}
 use Rattle.ann_frame.specs.Frames.{AreEntries, HaveComponents, IsFrame, AreFrames, frame_bytes, frames_bytes, entries_of}
 use Rattle.ann_frame.specs.Text.{StandFor, IsBroken, IsBadAt, size_of}
-use Rattle.ann_frame.proofs.Each.{all_append}
+use Rattle.ann_types.proofs.Sets.{all_append}
 use Rattle.ann_preamble.specs.Base.{is_base, is_empty, is_merged}
 use Rattle.ann_preamble.specs.declared.base.Base.{Base}
 use Rattle.ann_preamble.proofs.Agreed.{both}

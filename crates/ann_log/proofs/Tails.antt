@@ -5,20 +5,10 @@ use Rattle.std.proofs.lemmas.Grind.{flat_map-append}
 use Rattle.std.proofs.lemmas.List.{append-nil, take_at, take_all}
 use Rattle.ann_types.specs.declared.entry.Entry.{Entry}
 use Rattle.ann_frame.specs.Frames.{AreFrames, IsFrame, frame_bytes, frames_bytes, entries_of}
-use Rattle.ann_frame.proofs.Each.{all_append}
+use Rattle.ann_types.proofs.Sets.{all_append}
 use Rattle.ann_log.specs.Anew.{AreFull, AreTail, HoldsTail, IsHead, opened, IsUnmadeOr, IsUnmadeOrWhole}
 
 -- ---- parts of a list
-
-pub each_take : {X : Type 0} (P : X → Type 0) (n : ℕ) (xs : List X) → AllByRecursion P xs → AllByRecursion P (take n xs)
-each_take P zero xs each = tt
-each_take P (suc n) [] each = tt
-each_take P (suc n) (x ∷ xs) each = (each.0, each_take P n xs each.1)
-
-pub each_drop : {X : Type 0} (P : X → Type 0) (n : ℕ) (xs : List X) → AllByRecursion P xs → AllByRecursion P (drop n xs)
-each_drop P zero xs each = each
-each_drop P (suc n) [] each = tt
-each_drop P (suc n) (x ∷ xs) each = each_drop P n xs each.1
 
 take_on : {X : Type 0} (n m : ℕ) (xs : List X) → take n xs ++ take m (drop n xs) ≡ take (n + m) xs
 take_on zero m xs = ap (λ (k : ℕ). take k xs) (omega arith)

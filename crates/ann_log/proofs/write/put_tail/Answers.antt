@@ -3,7 +3,8 @@ use Rattle.ann_entry.specs.EntryBytes.{HasComponents}
 use Rattle.ann_frame.specs.Frames.{IsFrame}
 use Rattle.ann_frame.proofs.Filling.{sizes_most}
 use Rattle.ann_fault.proofs.Counts.{behind}
-use Rattle.ann_log.proofs.Tails.{each_take, each_drop, tail_start, tail_ends, tail_end, tail_more, ends_more}
+use Rattle.ann_types.proofs.Each.{all_take, all_drop}
+use Rattle.ann_log.proofs.Tails.{tail_start, tail_ends, tail_end, tail_more, ends_more}
 use Rattle.ann_log.proofs.write.put_tail.Goals as goal
 
 pub loop-start-init : goal.loop-start-init
@@ -25,7 +26,7 @@ loop-start-preserved g c =
     let end = start + c.min.result in
     let count = end - start in
     let is_end : end ≡ start + count = omega arith in
-    let components = each_take (HasComponents c.args.d) count (drop start tail) (each_drop (HasComponents c.args.d) start tail c.requires.each) in
+    let components = all_take (HasComponents c.args.d) count (drop start tail) (all_drop (HasComponents c.args.d) start tail c.requires.each) in
     let ends = λ (told : D.tells). tail_ends D.tells c.args.d c.args.gate (D.seen c.args.file.now) (c.requires.last told) in
     let inside : D.tells → c.args.gate ≤ length (D.seen c.args.file.now) = λ told. let long = ends told in omega (arith, long) in
     let long : length (take count (drop start tail)) ≡ count = omega (arith, length-take count (drop start tail), length-drop start tail) in
