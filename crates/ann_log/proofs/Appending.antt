@@ -2,7 +2,7 @@
 use Rattle.std.proofs.Common.{◌≡◌, ℕ, ◌+◌, ◌-◌, ◌<◌, ◌^◌, List, [], ◌∷◌, ◌++◌, length, take, Bool, true, false, refl, sym, ap, subst, ◌∙◌, arith, length-append}
 use Rattle.ann_types.specs.declared.entry.Entry.{Entry}
 use Rattle.ann_types.specs.declared.params.Params.{Params}
-use Rattle.ann_pq.specs.Codebook.{Shown}
+use Rattle.ann_pq.specs.Codebook.{CodebookView}
 use Rattle.ann_preamble.specs.declared.base.Base.{Base}
 use Rattle.ann_disk.specs.Image.{IsImage}
 use Rattle.ann_disk.specs.declared.file.LogFile.{Ghosts}
@@ -29,7 +29,7 @@ pub record IsReady {F : Type 0} (D : Ghosts F) (side : Side) (held : Held) (gene
   pub bytes_is : bytes ≡ frame_bytes entries ++ 0 ∷ []
 
 -- how a log with these fields is seen
-abbrev pub view_then : {F : Type 0} → Ghosts F → Side → Params → Shown → Base → ℕ → F → F → ℕ → Bool → LogView F
+abbrev pub view_then : {F : Type 0} → Ghosts F → Side → Params → CodebookView → Base → ℕ → F → F → ℕ → Bool → LogView F
 view_then D side params book base generation log other count closed = record {
   log = log;
   other = other;
@@ -44,10 +44,10 @@ view_then D side params book base generation log other count closed = record {
 }
 
 -- what a log holds with these fields
-abbrev pub held_then : Params → Shown → Base → ℕ → ℕ → List ℕ → Held
+abbrev pub held_then : Params → CodebookView → Base → ℕ → ℕ → List ℕ → Held
 held_then params book base generation count bytes = record { params = params; book = book; base = base; entries = counted (said_in params book base generation) count bytes }
 
-pub ready_in : {F : Type 0} (D : Ghosts F) (side : Side) (params : Params) (book : Shown) (base : Base) (generation : ℕ) (log other : F) (gate count : ℕ) (closed : Bool) (view : LogView F)
+pub ready_in : {F : Type 0} (D : Ghosts F) (side : Side) (params : Params) (book : CodebookView) (base : Base) (generation : ℕ) (log other : F) (gate count : ℕ) (closed : Bool) (view : LogView F)
     → view_then D side params book base generation log other count closed ≡ view
     → IsSound D.tells side (said_in params book base generation) (D.seen log) (D.seen other) (D.unsynced log) (D.unsynced other) gate count closed
     → view.is_closed ≡ false

@@ -6,7 +6,7 @@ use Rattle.ann_types.specs.declared.entry.Entry.{Entry}
 use Rattle.ann_disk.specs.Image.{Unsynced, IsFree}
 use Rattle.ann_disk.specs.File.{BeginsAnImage}
 use Rattle.ann_frame.specs.Frames.{IsFrame, AreFrames, HaveComponents, frame_bytes, frames_bytes, entries_of}
-use Rattle.ann_pq.specs.Codebook.{Shown}
+use Rattle.ann_pq.specs.Codebook.{CodebookView}
 use Rattle.ann_preamble.specs.declared.base.Base.{Base}
 use Rattle.ann_preamble.specs.Preamble.{Said, preamble_of}
 use Rattle.ann_preamble.specs.Written.{preamble_bytes}
@@ -103,7 +103,7 @@ abbrev pub IsFrontOrText : Unsynced → Said → List Entry → List ℕ → Typ
 IsFrontOrText before s entries bytes = BeginsAnImage before bytes ⊎ IsUnmadeOrText s entries bytes
 
 -- what a log holds with these
-abbrev pub held_in : Params → Shown → Base → List Entry → Held
+abbrev pub held_in : Params → CodebookView → Base → List Entry → Held
 held_in params book base entries = record { params = params; book = book; base = base; entries = entries }
 
 -- The bytes of a file that was written anew: a preamble with an open made byte, the frames of the entries, each behind an

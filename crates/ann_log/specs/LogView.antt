@@ -2,7 +2,7 @@
 use Rattle.std.specs.Prelude.{◌≡◌, ◌≢◌, ◌⊎◌, ℕ, ◌+◌, ◌*◌, ◌<◌, ◌≤◌, ◌^◌, Bool, true, false, List, [], ◌∷◌, ◌++◌, length, take, drop, Option, Some, None}
 use Rattle.ann_types.specs.declared.params.Params.{Params}
 use Rattle.ann_types.specs.declared.entry.Entry.{Entry}
-use Rattle.ann_pq.specs.Codebook.{Shown}
+use Rattle.ann_pq.specs.Codebook.{CodebookView}
 use Rattle.ann_pq.specs.Format.{fault}
 use Rattle.ann_disk.specs.Image.{Unsynced, clean}
 use Rattle.ann_preamble.specs.Base.{is_base}
@@ -24,7 +24,7 @@ pub record LogView (F : Type 0) : Type 0 where
   pub other : F
   pub side : Side
   pub params : Params
-  pub book : Shown
+  pub book : CodebookView
   pub base : Base
   pub generation : ℕ
   pub list : List Entry

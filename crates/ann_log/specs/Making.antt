@@ -1,7 +1,7 @@
 -- What making a log leaves.
 use Rattle.std.specs.Prelude.{◌≡◌, ◌⊎◌, ℕ, false, List, []}
 use Rattle.ann_types.specs.declared.params.Params.{Params}
-use Rattle.ann_pq.specs.Codebook.{Shown}
+use Rattle.ann_pq.specs.Codebook.{CodebookView}
 use Rattle.ann_pq.specs.Format.{codebook}
 use Rattle.ann_disk.specs.Image.{Unsynced, IsImage}
 use Rattle.ann_disk.specs.declared.file.LogFile.{Ghosts}
@@ -20,7 +20,7 @@ use Rattle.ann_log.specs.declared.refused.MakeWhy.TheVariants.{IndexThere, Disk,
 use Rattle.ann_log.specs.declared.room.Room.{Room}
 
 -- a base and no entries
-abbrev pub held_with : Params → Shown → Base → Held
+abbrev pub held_with : Params → CodebookView → Base → Held
 held_with params book base = record { params = params; book = book; base = base; entries = [] }
 
 -- the same with the codebook of these bytes
@@ -52,7 +52,7 @@ abbrev pub IsNoIndexOr : Held → List ℕ → List ℕ → Type 0
 IsNoIndexOr held first second = IsNoIndex first second ⊎ StandsFor held first second
 
 -- a log that was just made: the first file is the log, it has no entries, and it isn't closed
-pub record IsFresh {F : Type 0} (p : Params) (shown : Shown) (b : Base) (log : LogView F) : Type 0 where
+pub record IsFresh {F : Type 0} (p : Params) (shown : CodebookView) (b : Base) (log : LogView F) : Type 0 where
   pub params : log.params ≡ p
   pub book : log.book ≡ shown
   pub base : log.base ≡ b
@@ -80,7 +80,7 @@ module _ {F : Type 0} (D : Ghosts F) where
   IsThere files why = D.tells → why ≡ IndexThere → IsNoIndex (D.seen files.first) (D.seen files.second) → ⊥
 
   -- no index is there, and this is the codebook of the bytes with room for writing
-  pub record HasGathered (p : Params) (bytes : List ℕ) (files : Files F) (shown : Shown) (space : Room) : Type 0 where
+  pub record HasGathered (p : Params) (bytes : List ℕ) (files : Files F) (shown : CodebookView) (space : Room) : Type 0 where
     pub none : HaveNone files
     pub book : shown ≡ codebook p.d p.m bytes
     pub room : HasRoom p.d space.frame.items space.preamble.items
@@ -98,7 +98,7 @@ module _ {F : Type 0} (D : Ghosts F) where
     pub read : D.tells → IsNoIndexOr held (D.seen new.first) (D.seen new.second)
 
   -- A log was made. Where a crash before the call leaves no index or an empty one, a crash meanwhile leaves what has P.
-  pub record IsMade (old : Files F) (p : Params) (shown : Shown) (b : Base) (P : List ℕ → List ℕ → Type 0) (log : LogView F) : Type 0 where
+  pub record IsMade (old : Files F) (p : Params) (shown : CodebookView) (b : Base) (P : List ℕ → List ℕ → Type 0) (log : LogView F) : Type 0 where
     pub none : HaveNone old
     pub held : D.tells → held_of log ≡ held_with p shown b
     pub constant : IsFresh p shown b log

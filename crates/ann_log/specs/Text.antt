@@ -2,7 +2,7 @@
 use Rattle.std.specs.Prelude.{◌≡◌, ℕ, ◌+◌, List, take, drop, Option, Some, None}
 use Rattle.ann_types.specs.declared.params.Params.{Params}
 use Rattle.ann_types.specs.declared.entry.Entry.{Entry}
-use Rattle.ann_pq.specs.Codebook.{Shown}
+use Rattle.ann_pq.specs.Codebook.{CodebookView}
 use Rattle.ann_preamble.specs.Preamble.{Said, fields_of, gate_place, preamble_of}
 use Rattle.ann_preamble.specs.Choice.{chosen}
 use Rattle.ann_preamble.specs.declared.base.Base.{Base}
@@ -54,12 +54,12 @@ log_text first second = text_on (chosen (preamble_of first) (preamble_of second)
 -- what a log holds
 pub record Held : Type 0 where
   pub params : Params
-  pub book : Shown
+  pub book : CodebookView
   pub base : Base
   pub entries : List Entry
 
 -- what a preamble says with these
-abbrev pub said_in : Params → Shown → Base → ℕ → Said
+abbrev pub said_in : Params → CodebookView → Base → ℕ → Said
 said_in params book base generation = record { fields = fields_of params base generation; book = book }
 
 abbrev pub said_of : Held → ℕ → Said

@@ -1,6 +1,6 @@
 use Rattle.std.proofs.Common.{◌≡◌, ◌∙◌, None, true, ℕ, List, inr, refl, ap, subst, sym}
 use Rattle.ann_types.specs.declared.params.Params.{Params}
-use Rattle.ann_pq.specs.Codebook.{Shown}
+use Rattle.ann_pq.specs.Codebook.{CodebookView}
 use Rattle.ann_pq.specs.Format.{fault, codebook}
 use Rattle.ann_preamble.specs.Base.{is_base}
 use Rattle.ann_preamble.specs.declared.base.Base.{Base}
@@ -76,7 +76,7 @@ returns-in-Err-write_both-clause-refused g c =
     }
 
 -- what the first preamble of an index says, with a codebook that was read from these bytes
-first_said : (params : Params) (bytes : List ℕ) (base : Base) (book : Shown) → is_base base ≡ true → fault params.d params.m bytes ≡ None → book ≡ codebook params.d params.m bytes → IsSaid (said_in params book base 1)
+first_said : (params : Params) (bytes : List ℕ) (base : Base) (book : CodebookView) → is_base base ≡ true → fault params.d params.m bytes ≡ None → book ≡ codebook params.d params.m bytes → IsSaid (said_in params book base 1)
 first_said params bytes base book good sound is = subst (λ b. IsSaid (said_in params b base 1)) (sym is) (record { base = good; book = sound; sizes = (refl, refl) })
 
 pub write_both-requires-clause-none : goal.write_both-requires-clause-none
