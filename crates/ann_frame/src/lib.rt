@@ -10,10 +10,12 @@
 
 mod entries;
 mod frames_refused;
+mod gate;
 mod reading;
 mod writing;
 
 pub use entries::Entries;
 pub use frames_refused::FramesRefused;
+pub use gate::{OPEN, SHUT};
 pub use reading::{Frames, read_frames};
 pub use writing::{frame_size, write_frame};

@@ -8,12 +8,10 @@ ghost use Rattle.ann_frame.specs.Found.{HasEntries, HasFrame, IsRefusedFrame, Ar
 
 use crate::entries::Entries;
 use crate::frames_refused::FramesRefused;
+use crate::gate::OPEN;
 use ann_bytes::get_u32;
 use ann_entry::{EntryRefused, decode};
 use std::alloc::{AllocError, Global};
-
-/// A gate that is open.
-pub(crate) const OPEN: u8 = 1;
 
 /// The bytes of a frame's length field.
 pub(crate) const LENGTH: usize = 4;

@@ -4,6 +4,7 @@ ghost use Rattle.ann_bytes.specs.LittleEndian.{with_field};
 ghost use Rattle.ann_entry.specs.EntryBytes.{entries_bytes};
 ghost use Rattle.ann_frame.specs.Frames.{AreEntries, HaveComponents, IsFrame, frame_bytes};
 
+use crate::gate::SHUT;
 use crate::reading::LENGTH;
 use ann_bytes::put_u32;
 use ann_entry::encode;
@@ -14,9 +15,6 @@ const MOST: usize = 64;
 
 /// The most bytes that an entry has besides its vector.
 const NAMED: usize = 13;
-
-/// A gate that isn't open.
-const SHUT: u8 = 0;
 
 /// The most bytes that a frame of 64 entries takes with the gate behind it, where vectors have d components.
 pub fn frame_size(d: u16) -> usize

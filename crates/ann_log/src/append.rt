@@ -7,8 +7,8 @@ ghost use Rattle.ann_log.specs.Told.{Leaves, LeaveFiles};
 
 use crate::log::Log;
 use crate::refused::Disk;
-use crate::write::OPEN;
 use ann_disk::{Failed, LogFile, write_synced};
+use ann_frame::OPEN;
 use ann_types::Entry;
 
 impl<F: LogFile> Log<F> {

@@ -9,19 +9,13 @@ ghost use Rattle.ann_log.specs.Told.{IsSynced, Leaves};
 
 use crate::room::Room;
 use ann_disk::{Failed, LogFile, cut_any, write_synced};
-use ann_frame::write_frame;
+use ann_frame::{OPEN, SHUT, write_frame};
 use ann_pq::Codebook;
 use ann_preamble::{Base, write};
 use ann_types::{Entry, Params};
 
 /// The most entries of a frame.
 const MOST: usize = 64;
-
-/// A gate or a made byte that is open.
-pub(crate) const OPEN: u8 = 1;
-
-/// A made byte that isn't open.
-const SHUT: u8 = 0;
 
 /// Writes a file anew: the preamble that says this, and the entries behind it. Takes no memory. Gives the place of the
 /// last gate.
