@@ -10,7 +10,7 @@ use Rattle.ann_types.specs.Index.{Index}
 use Rattle.ann_types.specs.Fold.{State, all_points, start}
 use Rattle.ann_types.specs.Legal.{pid_end}
 use Rattle.ann_types.specs.declared.params.Params.{Params}
-use Rattle.ann_pq.specs.Codebook.{Shown as BookShown}
+use Rattle.ann_pq.specs.Codebook.{CodebookView}
 use Rattle.ann_segment.specs.Directory.{Item}
 use Rattle.ann_segment.specs.Segment.{SegmentView}
 use Rattle.ann_view.specs.Temp.{Temp}
@@ -19,7 +19,7 @@ use Rattle.ann_view.specs.Temp.{Temp}
 -- graph; the segment that holds that graph, if there is one; and whether it was closed
 pub record Shown (S : Type 0) : Type 0 where
   pub params : Params
-  pub book : BookShown
+  pub book : CodebookView
   pub at : ℕ
   pub next : ℕ
   pub memory : State
@@ -27,7 +27,7 @@ pub record Shown (S : Type 0) : Type 0 where
   pub closed : Bool
 
 -- a view with nothing in memory
-abbrev pub opening : {S : Type 0} → Params → BookShown → ℕ → ℕ → Option (SegmentView S) → Shown S
+abbrev pub opening : {S : Type 0} → Params → CodebookView → ℕ → ℕ → Option (SegmentView S) → Shown S
 opening params book at next segment =
     record { params = params; book = book; at = at; next = next; memory = start empty_graph; segment = segment; closed = false }
 
@@ -70,7 +70,7 @@ pub record IsView {S : Type 0} (view : Shown S) : Type 0 where
 
 -- ---- how it is kept
 
-abbrev pub shown : {S : Type 0} → Temp → Arc BookShown Global → ℕ → ℕ → Option (Arc (SegmentView S) Global) → Bool → Shown S
+abbrev pub shown : {S : Type 0} → Temp → Arc CodebookView Global → ℕ → ℕ → Option (Arc (SegmentView S) Global) → Bool → Shown S
 shown temp book at next segment closed = record {
   params = temp.params;
   book = book.value;
