@@ -12,7 +12,6 @@ use Rattle.ann_types.specs.Order.{before, has, placed, all_placed, in_order, top
 use Rattle.ann_types.proofs.Ordered.{has_here, has_later, has_cases, cut_placed, all_placed-append, has_placed, has_in_order, has_from_take}
 use Rattle.ann_pool.specs.declared.item.Item.{Item}
 use Rattle.ann_pool.proofs.Orders.{Precedes, before_tells, before_from, before-asymmetric}
-use Rattle.ann_dead.specs.Pids.{has as is_dead}
 use Rattle.ann_beam.specs.Ranking.{IsBeyond, IsRanked, Ranked, hit_of, joined, nearer, rank, ranked, with_all, with_ranked}
 
 pub length-joined : (pids : List ℕ) (hits : List Hit) → length pids ≡ length hits → length (joined pids hits) ≡ length hits
@@ -255,9 +254,3 @@ new_from_distinct there (p ∷ more) d apart =
 pub with_all-append : (n : ℕ) (xs ys s : List Ranked) → with_all n (xs ++ ys) s ≡ with_all n ys (with_all n xs s)
 with_all-append n [] ys s = refl
 with_all-append n (x ∷ xs) ys s = with_all-append n xs ys (with_ranked n x s)
-
--- ---- deleted points
-
--- a Pid of a delete list, as that list and as a set of points
-pub dead_has : (dead : List ℕ) (pid : ℕ) → is_dead dead pid ≡ has dead pid
-dead_has dead pid = refl

@@ -6,6 +6,8 @@
 #[cfg(test)]
 mod beam;
 #[cfg(test)]
+mod collect;
+#[cfg(test)]
 mod points;
 #[cfg(test)]
 mod segment;

@@ -2,7 +2,7 @@ ghost use Rattle.std.specs.Prelude.{◌≡◌, ◌≤◌, ◌<◌, ◌+◌, IsTr
 ghost use Rattle.ann_segment.specs.Directory.{Item};
 
 use crate::beam::are_hits;
-use crate::points::{codebook, params, segment, two_points};
+use crate::points::{codebook, params, put, segment, two_points};
 use ann_beam::Desk;
 use ann_pq::Codebook;
 use ann_segment::Segment;
@@ -34,16 +34,18 @@ fn is_below(segment: &Segment<MemorySeal>, next: Pid) -> bool
     true
 }
 
-// The segment 5 of two points at 10 and 20, whose Pids are below one.
+// The segment 5 of two points at 10 and 20, whose Pids are below one, with another byte in a place.
 fn shared_segment(
     alloc: Global,
     params: &Params,
     next: Pid,
+    change: (usize, u8),
 ) -> Result<Arc<Segment<MemorySeal>>, Fail>
     ensures codes { IfOk result (λ segment. segment.value.m ≡ params.now.m) }
     ensures below { IfOk result (λ segment. All (λ (x : Item). x.0 < next) segment.value.items) }
 {
-    let bytes = two_points(alloc, 5, [10, 20], [10, 20])?;
+    let mut bytes = two_points(alloc, 5, [10, 20], [10, 20])?;
+    put(&mut bytes, &[change]);
     let segment = segment(alloc, 5, &bytes, params)?;
     if !is_below(&segment, next) {
         return Err("a Pid".into());
@@ -51,8 +53,8 @@ fn shared_segment(
     Ok(Arc::new(alloc, segment)?)
 }
 
-// The point with a tag at ten times the tag.
-fn insert(view: &mut View<MemorySeal>, alloc: Global, tag: u8) -> Result<(), Fail>
+/// The point with a tag at ten times the tag.
+pub(crate) fn insert(view: &mut View<MemorySeal>, alloc: Global, tag: u8) -> Result<(), Fail>
     requires tag { tag ≤ 5 }
     requires going { view.old.closed ≡ false }
     requires width { view.old.params.d ≡ 1 }
@@ -181,7 +183,7 @@ fn merges_two(view: &mut View<MemorySeal>, alloc: Global, params: &Params) -> Re
     requires codes { view.old.params ≡ params.now }
     ensures going { OnOk result (view.new.closed ≡ false) }
 {
-    let segment = shared_segment(alloc, params, view.next())?;
+    let segment = shared_segment(alloc, params, view.next(), (0, b'A'))?;
     Ok(merge(view, segment)? == (1, true))
 }
 
@@ -205,8 +207,8 @@ fn fill_and_merge(
     Ok(view.can_begin() && view.segment()?.is_some() == merges)
 }
 
-// A wish for k points with the width l, near x.
-fn ask(alloc: Global, (k, l, x): (u16, u16, u8)) -> Result<Ask, Fail> {
+/// A wish for k points with the width l, near x.
+pub(crate) fn ask(alloc: Global, (k, l, x): (u16, u16, u8)) -> Result<Ask, Fail> {
     let vector = Vector::copy(alloc, &[x])?;
     match Ask::new(k, l, vector) {
         Some(ask) => Ok(ask),
@@ -285,14 +287,18 @@ fn replace_first(view: &mut View<MemorySeal>, alloc: Global) -> Result<(), Fail>
     Ok(())
 }
 
-// The view from entry 4 on of the segment.
-fn resumed(alloc: Global, params: &Params) -> Result<View<MemorySeal>, Fail>
+/// The view from entry 4 on of the segment, which has another byte in a place.
+pub(crate) fn resumed(
+    alloc: Global,
+    params: &Params,
+    change: (usize, u8),
+) -> Result<View<MemorySeal>, Fail>
     requires one { (params.now.d ≡ 1) × (params.now.m ≡ 1) }
     ensures going { IfOk result (λ view. view.closed ≡ false) }
     ensures width { IfOk result (λ view. view.params.d ≡ 1) }
-    ensures room { IfOk result (λ view. (view.at ≤ 1000) × (view.next ≤ 1000)) }
+    ensures room { IfOk result (λ view. (view.at ≤ 100) × (view.next ≤ 100)) }
 {
-    let segment = shared_segment(alloc, params, 2)?;
+    let segment = shared_segment(alloc, params, 2, change)?;
     Ok(View::resume(alloc, params, shared_book(alloc)?, 4, 2, segment)?)
 }
 
@@ -316,7 +322,7 @@ fn replaces_and_finds(
 // The same of a view that goes on from the segment.
 fn goes_on(alloc: Global) -> Result<(u64, (bool, bool)), Fail> {
     let params = params(100)?;
-    let mut view = resumed(alloc, &params)?;
+    let mut view = resumed(alloc, &params, (0, b'A'))?;
     replaces_and_finds(&mut view, alloc, &params)
 }
 

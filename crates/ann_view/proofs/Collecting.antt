@@ -1,5 +1,5 @@
 -- Live points, added graph by graph and row by row.
-use Rattle.std.proofs.Common.{◌≡◌, ℕ, zero, suc, ◌+◌, ◌≤◌, ◌<◌, Bool, true, false, cond, not, List, [], ◌∷◌, ◌++◌, refl, sym, ap, ◌∙◌, subst, arith, map, filter, take, drop, length, get_or, append_assoc, length-append}
+use Rattle.std.proofs.Common.{◌≡◌, ℕ, suc, ◌+◌, ◌≤◌, ◌<◌, Bool, true, false, cond, not, List, [], ◌∷◌, ◌++◌, refl, sym, ap, ◌∙◌, subst, arith, map, filter, take, drop, length, get_or, append_assoc, length-append}
 use Rattle.std.specs.Prelude.{flat_map, None, Some, Result, Ok, Err, IfErr, OnErr}
 use Rattle.std.specs.Result.{IsErrAnd}
 use Rattle.std.proofs.lemmas.List.{append-nil, map-append, take_more, take_all, take-append-drop}
@@ -12,13 +12,11 @@ use Rattle.ann_types.specs.declared.new_point.NewPoint.{NewPoint}
 use Rattle.ann_types.specs.Merge.{without}
 use Rattle.ann_types.specs.declared.params.Params.{Params}
 use Rattle.ann_types.proofs.Sets.{all_append}
-use Rattle.ann_dead.specs.Pids.{has as dead_has}
 use Rattle.ann_fault.specs.Counts.{next_count}
 use Rattle.ann_vault.specs.Reads.{more_reads}
 use Rattle.ann_segment.specs.Segment.{SegmentView}
 use Rattle.ann_beam.specs.Visits.{judged, row_block}
 use Rattle.ann_beam.proofs.Readings.{reads_more}
-use Rattle.ann_view.proofs.Deletes.{has_same}
 use Rattle.ann_view.specs.Collected.{AddsRows, Begins, Counts, Gathering, HasAdded, IsUncollected, alive_in, new_pids, pid_in, row_point_in, rows_below, undeleted}
 use Rattle.ann_view.specs.declared.collect_refused.CollectRefused.{CollectRefused}
 use Rattle.ann_view.specs.declared.collect_refused.CollectRefused.TheVariants.{Disk, BadSegment, Memory}
@@ -34,8 +32,8 @@ begins_wider front all more b = (b.0 ++ more, ap (λ t. t ++ more) b.1 ∙ appen
 -- ---- one point
 
 -- what was asked of the delete list
-pub asked : (dead : List ℕ) (pid pid' : ℕ) (answer wanted : Bool) → pid ≡ pid' → answer ≡ dead_has dead pid → answer ≡ wanted → has dead pid' ≡ wanted
-asked dead pid pid' answer wanted same is e = sym (has_same dead pid') ∙ ap (dead_has dead) (sym same) ∙ sym is ∙ e
+pub asked : (dead : List ℕ) (pid pid' : ℕ) (answer wanted : Bool) → pid ≡ pid' → answer ≡ has dead pid → answer ≡ wanted → has dead pid' ≡ wanted
+asked dead pid pid' answer wanted same is e = ap (has dead) (sym same) ∙ sym is ∙ e
 
 pub point_dead : (dead : List ℕ) (x : Point) (old : List NewPoint) → has dead x.pid ≡ true → old ≡ old ++ alive_in dead (x ∷ [])
 point_dead dead x old there = sym (append-nil old) ∙ ap (λ (t : Bool). old ++ map new_point (cond (not t) (x ∷ []) [])) (sym there)

@@ -1,25 +1,24 @@
 -- What a collect of a whole view leaves.
 use Rattle.std.proofs.Common.{◌≡◌, ℕ, zero, suc, ◌+◌, ◌-◌, ◌≤◌, ◌<◌, Bool, true, false, cond, not, List, [], ◌∷◌, ◌++◌, refl, sym, ap, ap₂, ◌∙◌, subst, arith, map, filter, take, length, length-append, get_or, append_assoc}
 use Rattle.std.specs.Prelude.{Option, Some, None, flat_map}
-use Rattle.std.specs.List.{AllByRecursion}
 use Rattle.std.proofs.lemmas.List.{append-nil, map-append, take_more, take_all, length-map, get_or-map}
 use Rattle.std.proofs.lemmas.List.Elements.{filter-append}
 use Rattle.ann_types.specs.Order.{has}
-use Rattle.ann_types.specs.Codes.{Book, code}
+use Rattle.ann_types.specs.Codes.{Book}
 use Rattle.ann_types.specs.Graph.{Point, Graph, empty_graph, pids_of}
 use Rattle.ann_types.specs.Merge.{survivors, without}
-use Rattle.ann_types.specs.Fold.{State, all_points, new_point}
+use Rattle.ann_types.specs.Fold.{all_points, new_point}
 use Rattle.ann_types.specs.declared.new_point.NewPoint.{NewPoint}
 use Rattle.ann_types.specs.declared.params.Params.{Params}
 use Rattle.ann_vault.specs.Reads.{more_reads}
 use Rattle.ann_block.specs.Node.{NodeFields}
-use Rattle.ann_segment.specs.Directory.{Item, item_of}
+use Rattle.ann_segment.specs.Directory.{Item}
 use Rattle.ann_segment.specs.Segment.{SegmentView}
 use Rattle.ann_segment.specs.Holds.{Holds}
-use Rattle.ann_segment.proofs.Holding.{point_at, holds_count, holds_row}
+use Rattle.ann_segment.proofs.Holding.{holds_count, holds_row}
 use Rattle.ann_view.specs.View.{IndexView, whole, item_pids, segment_pids, pids_in}
 use Rattle.ann_view.specs.Holding.{HoldsGraph}
-use Rattle.ann_view.specs.Collected.{AddsRows, AddsSegment, StopsIn, StopsInSegment, Begins, Counts, Gathering, HasAdded, HasBegun, HasCollected, Reads, alive_in, live_points, new_pids, pid_in, points_read, row_point_in, rows_below, told_points, undeleted}
+use Rattle.ann_view.specs.Collected.{AddsSegment, StopsInSegment, Begins, Counts, Gathering, HasBegun, HasCollected, Reads, alive_in, live_points, new_pids, pid_in, points_read, row_point_in, rows_below, told_points, undeleted}
 use Rattle.ann_view.proofs.Collecting.{alive_append}
 
 -- ---- rows and lists

@@ -1,11 +1,10 @@
--- The set of deleted points: with one more, and without those that a merge takes out.
+-- The set of deleted points with one more.
 use Rattle.std.proofs.Common.{◌≡◌, ℕ, ◌<◌, cond, eqb, ltb, List, [], ◌∷◌, ◌++◌, refl, sym, ap, ◌∙◌}
 use Rattle.std.specs.List.{AllByRecursion}
-use Rattle.ann_types.specs.Order.{has, placed, ascending}
-use Rattle.ann_types.specs.Merge.{without}
+use Rattle.ann_types.specs.Order.{placed, ascending}
 use Rattle.ann_types.proofs.Ordered.{all_placed-append}
 use Rattle.ann_types.proofs.Sets.{Rises, ascending_rises}
-use Rattle.ann_dead.specs.Pids.{has as dead_has, with_pid, without as dead_without, AreAbove, IsAscending}
+use Rattle.ann_dead.specs.Pids.{with_pid, AreAbove, IsAscending}
 
 above_all : (x : ℕ) (xs : List ℕ) → AreAbove x xs → AllByRecursion (λ y. x < y) xs
 above_all x [] a = tt
@@ -24,11 +23,3 @@ dead_added dead pid a =
     with_placed pid dead
     ∙ ap (placed (λ _. 0) pid) (sym (ascending_rises dead (rises_from_ascending dead a)))
     ∙ sym (all_placed-append (λ _. 0) [] dead (pid ∷ []))
-
--- ---- the word for a member, which ann_dead has from ann_types
-
-pub has_same : (xs : List ℕ) (p : ℕ) → dead_has xs p ≡ has xs p
-has_same xs p = refl
-
-pub without_same : (gone set : List ℕ) → dead_without gone set ≡ without gone set
-without_same gone set = refl

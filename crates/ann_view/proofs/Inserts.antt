@@ -17,9 +17,10 @@ use Rattle.ann_table.specs.Table.{TableView}
 use Rattle.ann_table.proofs.Graphs.{length_points}
 use Rattle.ann_frozen.specs.Frozen.{FrozenView, frozen_of}
 use Rattle.ann_frozen.proofs.Same.{graph_same}
-use Rattle.ann_dead.specs.Pids.{with_pid, without as dead_without, IsAscending}
+use Rattle.ann_types.specs.Merge.{without}
+use Rattle.ann_dead.specs.Pids.{with_pid, IsAscending}
 use Rattle.ann_view.specs.Temp.{Temp, state_of, AreKept, IsOpenOver}
-use Rattle.ann_view.proofs.Deletes.{dead_added, without_same}
+use Rattle.ann_view.proofs.Deletes.{dead_added}
 
 -- the graphs of frozen rows
 abbrev pub graphs_of : List FrozenView → List Graph
@@ -133,11 +134,11 @@ module _ (old : Temp) (params : Params) (rw : TableView) (ros : List FrozenView)
       ap (λ (d : List ℕ). temp params (state_of rw ros d begun)) (e ∙ dead_added dead pid a)
       ∙ ap (λ (t : Temp). with_state t (deleted t.state (pid ∷ []))) is
 
-  pub ended_is : (b : Begun) (ros' : List FrozenView) (dead' : List ℕ) → begun ≡ Some b → ros' ≡ drop b.frozen ros → dead' ≡ dead_without b.gone dead → temp params (state_of rw ros' dead' None) ≡ with_state old (switched old.state empty_graph old.state.begun)
+  pub ended_is : (b : Begun) (ros' : List FrozenView) (dead' : List ℕ) → begun ≡ Some b → ros' ≡ drop b.frozen ros → dead' ≡ without b.gone dead → temp params (state_of rw ros' dead' None) ≡ with_state old (switched old.state empty_graph old.state.begun)
   ended_is b ros' dead' begins graphs left =
       ap (λ (t : List FrozenView). temp params (state_of rw t dead' None)) graphs
       ∙ ap (λ (t : List Graph). let s : State = record { rw = graph_of rw.nodes; ros = t; lti = empty_graph; dead = dead'; begun = None } in temp params s) (sym (drop-map (λ (f : FrozenView). graph_of f.nodes) b.frozen ros))
-      ∙ ap (λ (d : List ℕ). let s : State = record { rw = graph_of rw.nodes; ros = drop b.frozen (graphs_of ros); lti = empty_graph; dead = d; begun = None } in temp params s) (left ∙ without_same b.gone dead)
+      ∙ ap (λ (d : List ℕ). let s : State = record { rw = graph_of rw.nodes; ros = drop b.frozen (graphs_of ros); lti = empty_graph; dead = d; begun = None } in temp params s) (left)
       ∙ ap (λ (o : Option Begun). temp params (switched (state_of rw ros dead begun) empty_graph o)) (sym begins)
       ∙ ap (λ (t : Temp). with_state t (switched t.state empty_graph t.state.begun)) is
 

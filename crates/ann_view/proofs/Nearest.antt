@@ -15,7 +15,6 @@ use Rattle.ann_types.specs.Merge.{without}
 use Rattle.ann_types.specs.declared.params.Params.{Params}
 use Rattle.ann_types.proofs.Renamed.{Below, Renames, below_near, below_visited}
 use Rattle.ann_types.proofs.Rowed.{pid_at, tag_at, has_pid_at}
-use Rattle.ann_dead.specs.Pids.{has as dead_has}
 use Rattle.ann_greedy.specs.Rows.{Rows, far_row, ground_at, near_rows, visited_rows}
 use Rattle.ann_greedy.specs.Shows.{AreRows, seen}
 use Rattle.ann_table.specs.Node.{Node, nothing, node_at, row_pid, rows_of, first_row, point_of, graph_of}
@@ -27,20 +26,19 @@ use Rattle.ann_beam.specs.Ranking.{Ranked, rank, with_ranked, with_all}
 use Rattle.ann_beam.specs.Visits.{alive}
 use Rattle.ann_beam.proofs.Rankings.{with_all-append}
 use Rattle.ann_view.specs.Near.{row_point, near_points, AreInside}
-use Rattle.ann_view.proofs.Deletes.{has_same}
 
 -- ---- one point
 
-pub item_alive : (limit : ℕ) (dead : List ℕ) (x : Ranked) (pid tag : ℕ) (is_dead : Bool) (new old : List Ranked) → is_dead ≡ dead_has dead pid → is_dead ≡ false → pid ≡ x.pid → tag ≡ x.tag → new ≡ with_ranked limit (record { pid = pid; tag = tag; distance = x.distance }) old → new ≡ with_all limit (alive dead (x ∷ [])) old
+pub item_alive : (limit : ℕ) (dead : List ℕ) (x : Ranked) (pid tag : ℕ) (is_dead : Bool) (new old : List Ranked) → is_dead ≡ has dead pid → is_dead ≡ false → pid ≡ x.pid → tag ≡ x.tag → new ≡ with_ranked limit (record { pid = pid; tag = tag; distance = x.distance }) old → new ≡ with_all limit (alive dead (x ∷ [])) old
 item_alive limit dead x pid tag is_dead new old asked no_more same named e =
     e
     ∙ ap (λ p. with_ranked limit (record { pid = p; tag = tag; distance = x.distance }) old) same
     ∙ ap (λ t. with_ranked limit (record { pid = x.pid; tag = t; distance = x.distance }) old) named
-    ∙ ap (λ t. with_all limit (cond (not t) (x ∷ []) []) old) (sym (sym (has_same dead x.pid) ∙ ap (dead_has dead) (sym same) ∙ sym asked ∙ no_more))
+    ∙ ap (λ t. with_all limit (cond (not t) (x ∷ []) []) old) (sym (ap (has dead) (sym same) ∙ sym asked ∙ no_more))
 
-pub item_dead : (limit : ℕ) (dead : List ℕ) (x : Ranked) (pid : ℕ) (is_dead : Bool) (old : List Ranked) → is_dead ≡ dead_has dead pid → is_dead ≡ true → pid ≡ x.pid → old ≡ with_all limit (alive dead (x ∷ [])) old
+pub item_dead : (limit : ℕ) (dead : List ℕ) (x : Ranked) (pid : ℕ) (is_dead : Bool) (old : List Ranked) → is_dead ≡ has dead pid → is_dead ≡ true → pid ≡ x.pid → old ≡ with_all limit (alive dead (x ∷ [])) old
 item_dead limit dead x pid is_dead old asked there same =
-    ap (λ t. with_all limit (cond (not t) (x ∷ []) []) old) (sym (sym (has_same dead x.pid) ∙ ap (dead_has dead) (sym same) ∙ sym asked ∙ there))
+    ap (λ t. with_all limit (cond (not t) (x ∷ []) []) old) (sym (ap (has dead) (sym same) ∙ sym asked ∙ there))
 
 pub item_beyond : (limit : ℕ) (dead : List ℕ) (x : Ranked) (old : List Ranked) → with_ranked limit x old ≡ old → old ≡ with_all limit (alive dead (x ∷ [])) old
 item_beyond limit dead x old same = elim (has dead x.pid) as (λ t. old ≡ with_all limit (cond (not t) (x ∷ []) []) old) [ true ↦ refl | false ↦ sym same ]

@@ -55,7 +55,8 @@ pub(crate) fn add_graph<G: Named>(
     dead: &Dead,
     out: &mut PointList,
 ) -> Result<(), AllocError>
-    ensures added { OnOk result (out.new ≡ out.old ++ alive_in dead.now (graph_of (G.nodes graph.now)).points) }
+    ensures added { OnOk result
+        (out.new ≡ out.old ++ alive_in dead.now (graph_of (G.nodes graph.now)).points) }
     ensures begun { OnErr result (Begins out.new
         (out.old ++ alive_in dead.now (graph_of (G.nodes graph.now)).points)) }
 {
@@ -154,12 +155,14 @@ fn add_segment<S: Sealed, E: Eye<Seal = S>>(
     eye: &mut E,
     out: &mut PointList,
 ) -> Result<(), CollectRefused>
-    ensures added { OnOk result (AddsSegment S.tells S.bytes (option_map arc_value segment.now) params.now dead.now
+    ensures added { OnOk result (AddsSegment S.tells S.bytes (option_map arc_value segment.now)
+        params.now dead.now
         (gathering out.old (E.reads eye.old) (E.faults eye.old))
         (gathering out.new (E.reads eye.new) (E.faults eye.new))) }
     ensures stopped { OnErr result (StopsInSegment S.tells S.bytes (option_map arc_value segment.now)
         params.now dead.now out.old out.new) }
-    ensures refused { IfErr result (IsUncollected S.tells S.bytes (option_map arc_value segment.now) params.now
+    ensures refused { IfErr result (IsUncollected S.tells S.bytes (option_map arc_value segment.now)
+        params.now
         (counts_of (E.reads eye.old) (E.faults eye.old)) (counts_of (E.reads eye.new) (E.faults eye.new))) }
 {
     match segment {
@@ -182,10 +185,12 @@ impl<S: Sealed> View<S> {
         out: &mut PointList,
     ) -> Result<(), CollectRefused>
         ensures collected { OnOk result (HasCollected S.tells S.bytes self.now out.new
-            (counts_of (E.reads eye.old) (E.faults eye.old)) (counts_of (E.reads eye.new) (E.faults eye.new))) }
+            (counts_of (E.reads eye.old) (E.faults eye.old))
+            (counts_of (E.reads eye.new) (E.faults eye.new))) }
         ensures begun { OnErr result (HasBegun S.tells S.bytes self.now out.new) }
         ensures refused { IfErr result (IsUncollected S.tells S.bytes self.now.segment self.now.params
-            (counts_of (E.reads eye.old) (E.faults eye.old)) (counts_of (E.reads eye.new) (E.faults eye.new))) }
+            (counts_of (E.reads eye.old) (E.faults eye.old))
+            (counts_of (E.reads eye.new) (E.faults eye.new))) }
     {
         self.book.known();
         out.clear();

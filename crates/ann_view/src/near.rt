@@ -127,13 +127,15 @@ pub(crate) fn add_near<G: Named>(graph: &G, dead: &Dead, desk: &mut Desk, ask: &
 
 /// The same of each of some frozen graphs.
 pub(crate) fn add_near_frozen(graphs: &[Arc<Frozen>], dead: &Dead, desk: &mut Desk, ask: &Ask)
-    requires { AllByRecursion (λ (f : FrozenView). length ask.now.vector ≡ f.params.d) (map arc_value graphs.now) }
+    requires { AllByRecursion (λ (f : FrozenView). length ask.now.vector ≡ f.params.d)
+        (map arc_value graphs.now) }
     ensures limit { (result_of desk.new).limit ≡ (result_of desk.old).limit }
     ensures points { (result_of desk.new).points ≡ with_all (result_of desk.old).limit
         (flat_map (λ (f : FrozenView). near_points dead.now (graph_of f.nodes) ask.now.vector ask.now.l)
         (map arc_value graphs.now))
         (result_of desk.old).points }
-    ensures inside { AllByRecursion (λ (f : FrozenView). AreInside ask.now.vector ask.now.l (graph_of f.nodes))
+    ensures inside { AllByRecursion
+        (λ (f : FrozenView). AreInside ask.now.vector ask.now.l (graph_of f.nodes))
         (map arc_value graphs.now) }
 {
     for graph in graphs {

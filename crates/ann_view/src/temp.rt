@@ -207,7 +207,8 @@ impl TempIndex {
     /// Freezes the graph that takes new points, unless it is empty.
     fn freeze(&mut self) -> Result<(), AllocError>
         ensures frozen { OnOk result (self.new ≡ with_state self.old
-            (if is_empty self.old.state.rw then self.old.state else frozen self.old.state self.old.state.rw)) }
+            (if is_empty self.old.state.rw then self.old.state
+            else frozen self.old.state self.old.state.rw)) }
         ensures refused { OnErr result (self.new ≡ self.old) }
     {
         if Graph::count(&self.rw) == 0 {
@@ -309,7 +310,8 @@ impl TempIndex {
     /// Adds the live points of the graphs in memory, in order of Pid. The only error is want of memory; the first of them
     /// are there then.
     pub(crate) fn collect(&self, out: &mut PointList) -> Result<(), AllocError>
-        ensures added { OnOk result (out.new ≡ out.old ++ alive_in self.now.state.dead (all_points self.now.state)) }
+        ensures added { OnOk result
+            (out.new ≡ out.old ++ alive_in self.now.state.dead (all_points self.now.state)) }
         ensures begun { OnErr result
             (Begins out.new (out.old ++ alive_in self.now.state.dead (all_points self.now.state))) }
     {

@@ -1,12 +1,6 @@
-use Rattle.std.proofs.Common.{◌≡◌, ℕ, Bool, true, false, List, sym, ap, ◌∙◌}
-use Rattle.ann_types.specs.Order.{has}
-use Rattle.ann_types.specs.Graph.{Point}
-use Rattle.ann_types.specs.Fold.{new_point}
-use Rattle.ann_types.specs.declared.new_point.NewPoint.{NewPoint}
-use Rattle.ann_dead.specs.Pids.{has as dead_has}
+use Rattle.std.proofs.Common.{true, false, List, ap, ◌∙◌}
 use Rattle.ann_greedy.specs.Rows.{Rows}
 use Rattle.ann_table.specs.Node.{Node, node_at, point_of, row_pid}
-use Rattle.ann_view.proofs.Deletes.{has_same}
 use Rattle.ann_view.proofs.Collecting.{asked, point_alive, point_dead}
 use Rattle.ann_view.proofs.collect.add_point.Goals as goal
 

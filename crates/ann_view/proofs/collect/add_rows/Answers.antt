@@ -1,6 +1,6 @@
-use Rattle.std.proofs.Common.{◌≡◌, ℕ, List, Some, refl, sym, ap, subst, length, arith}
+use Rattle.std.proofs.Common.{◌≡◌, ℕ, List, refl, sym, subst, length, arith}
 use Rattle.ann_types.specs.declared.new_point.NewPoint.{NewPoint}
-use Rattle.ann_view.specs.Collected.{HasAdded, AddsRows, IsUncollected, counts_of, gathering, rows_below}
+use Rattle.ann_view.specs.Collected.{HasAdded, AddsRows, gathering, rows_below}
 use Rattle.ann_view.proofs.Collecting.{added_none, added_more, on_err, uncollected_as, uncollected_then}
 use Rattle.ann_view.proofs.collect.add_rows.Goals as goal
 

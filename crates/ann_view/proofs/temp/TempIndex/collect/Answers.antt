@@ -1,9 +1,7 @@
-use Rattle.std.proofs.Common.{◌≡◌, ◌++◌, ◌∙◌, List, sym, ap, subst, map}
+use Rattle.std.proofs.Common.{◌++◌, ◌∙◌, List, ap, subst}
 use Rattle.std.specs.Prelude.{flat_map}
-use Rattle.std.specs.Arc.{arc_value}
 use Rattle.ann_types.specs.Graph.{Graph, Point}
 use Rattle.ann_types.specs.Fold.{all_points}
-use Rattle.ann_types.specs.declared.new_point.NewPoint.{NewPoint}
 use Rattle.ann_table.specs.Node.{graph_of}
 use Rattle.ann_frozen.specs.Frozen.{FrozenView}
 use Rattle.ann_view.specs.Temp.{Temp}

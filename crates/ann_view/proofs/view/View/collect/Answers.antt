@@ -1,11 +1,9 @@
 use Rattle.std.proofs.Common.{◌≡◌, List, [], ℕ, sym, ap, ◌∙◌, subst, length}
-use Rattle.std.specs.Arc.{arc_value}
-use Rattle.std.specs.Option.{option_map}
 use Rattle.ann_types.specs.declared.new_point.NewPoint.{NewPoint}
 use Rattle.ann_types.specs.declared.params.Params.{Params}
 use Rattle.ann_pq.specs.Codebook.{CodebookView}
 use Rattle.ann_view.specs.View.{IndexView, shown}
-use Rattle.ann_view.specs.Collected.{AddsSegment, Gathering, HasBegun, HasCollected, IsUncollected, StopsInSegment, counts_of, gathering}
+use Rattle.ann_view.specs.Collected.{AddsSegment, HasBegun, HasCollected, IsUncollected, StopsInSegment, counts_of, gathering}
 use Rattle.ann_view.specs.declared.collect_refused.CollectRefused.TheVariants.{Memory}
 use Rattle.ann_view.proofs.Collecting.{on_err, uncollected_as}
 use Rattle.ann_view.proofs.Collects.{begun_at_row, begun_in_memory, collected, reads_of}
