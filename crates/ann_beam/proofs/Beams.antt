@@ -22,7 +22,7 @@ use Rattle.ann_types.proofs.Merges.{pids_decoded}
 use Rattle.ann_types.proofs.Coded.{HasWidth, IsCode, code_is_code, length_code}
 use Rattle.ann_types.proofs.Renamed.{Below, Renames, below_append, below_take, below_filter, below_near, rounds_map}
 use Rattle.ann_types.proofs.Rowed.{pid_at, pid_of_at, links_at, tag_at, far_at, renames_at}
-use Rattle.ann_pq.specs.Codebook.{Shown as BookShown}
+use Rattle.ann_pq.specs.Codebook.{CodebookView}
 use Rattle.ann_pq.specs.Tables.{AreTablesOf, looked_up}
 use Rattle.ann_pq.proofs.Sums.{guided_is}
 use Rattle.ann_block.specs.Node.{NodeFields, judge_node}
@@ -215,7 +215,7 @@ only_disk tells bytes book segment params graph old new (Err Shut) parts told h 
 -- ---- how a search ends
 
 -- the rows were visited from the entry
-pub searched_by : {S T : Type 0} (tells : Type 0) (bytes : S → List ℕ) (segment : SegmentView S) (params : Params) (book : BookShown) (dead query query' : List ℕ) (width width' entry : ℕ) (tables : List (List ℕ)) (old new : Standing) (result : Result T SearchRefused) → length book.book ≡ params.m → segment.entry ≡ Some entry → query' ≡ query → width' ≡ width → AreTablesOf book.book query' tables → length tables ≡ length book.book → HasGone tells bytes segment params old new result → (tells → OnOk result (HasVisited (sight_in (record { segment = segment; params = params; query = query'; dead = dead }) (bytes segment.seal) tables old.result.limit) (rounds_of (ground_at (sight_in (record { segment = segment; params = params; query = query'; dead = dead }) (bytes segment.seal) tables old.result.limit) entry) width' params.w (length segment.items)) old new)) → IsSearched tells bytes (record { segment = Some segment; params = params; book = book; dead = dead; query = query; width = width }) old new result
+pub searched_by : {S T : Type 0} (tells : Type 0) (bytes : S → List ℕ) (segment : SegmentView S) (params : Params) (book : CodebookView) (dead query query' : List ℕ) (width width' entry : ℕ) (tables : List (List ℕ)) (old new : Standing) (result : Result T SearchRefused) → length book.book ≡ params.m → segment.entry ≡ Some entry → query' ≡ query → width' ≡ width → AreTablesOf book.book query' tables → length tables ≡ length book.book → HasGone tells bytes segment params old new result → (tells → OnOk result (HasVisited (sight_in (record { segment = segment; params = params; query = query'; dead = dead }) (bytes segment.seal) tables old.result.limit) (rounds_of (ground_at (sight_in (record { segment = segment; params = params; query = query'; dead = dead }) (bytes segment.seal) tables old.result.limit) entry) width' params.w (length segment.items)) old new)) → IsSearched tells bytes (record { segment = Some segment; params = params; book = book; dead = dead; query = query; width = width }) old new result
 searched_by {T = T} tells bytes segment params book dead query query' width width' entry tables old new (Err why) parts begins same wide are many gone visits = record {
   found = tt;
   refused = gone.refused;

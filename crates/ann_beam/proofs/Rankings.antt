@@ -5,7 +5,7 @@ use Rattle.std.specs.List.{AllByRecursion, IsDistinct}
 use Rattle.std.proofs.lemmas.Map.Keys.{IsDistinct-head, IsDistinct-tail}
 use Rattle.std.proofs.lemmas.List.{take-map, take_all}
 use Rattle.std.proofs.lemmas.Bool.{false≢true, or_from, ne_eqb, both_ways, false_from_ne_true}
-use Rattle.ann_types.proofs.Booleans.{neither, eqb_sym}
+use Rattle.ann_types.proofs.Booleans.{neither}
 use Rattle.ann_types.proofs.Each.{all_take}
 use Rattle.ann_types.specs.declared.hit.Hit.{Hit}
 use Rattle.ann_types.specs.Order.{before, has, placed, all_placed, in_order, top}
@@ -260,5 +260,4 @@ with_all-append n (x ∷ xs) ys s = with_all-append n xs ys (with_ranked n x s)
 
 -- a Pid of a delete list, as that list and as a set of points
 pub dead_has : (dead : List ℕ) (pid : ℕ) → is_dead dead pid ≡ has dead pid
-dead_has [] pid = refl
-dead_has (x ∷ dead) pid = ap (λ t. t || is_dead dead pid) (eqb_sym x pid) ∙ ap (λ t. eqb pid x || t) (dead_has dead pid)
+dead_has dead pid = refl

@@ -1,10 +1,10 @@
 -- How a search ends, handed on.
-use Rattle.std.proofs.Common.{◌≡◌, ℕ, List, [], refl, sym, ap, subst}
+use Rattle.std.proofs.Common.{◌≡◌, ℕ, List, refl, sym, ap, subst}
 use Rattle.std.specs.Prelude.{Option, Some, None, Result, Ok, Err}
 use Rattle.std.specs.Result.{IsErrAnd}
 use Rattle.ann_types.specs.Graph.{Graph}
 use Rattle.ann_types.specs.declared.params.Params.{Params}
-use Rattle.ann_pq.specs.Codebook.{Shown as BookShown}
+use Rattle.ann_pq.specs.Codebook.{CodebookView}
 use Rattle.ann_segment.specs.Segment.{SegmentView}
 use Rattle.ann_beam.specs.Ranking.{RankingView, with_all}
 use Rattle.ann_beam.specs.Quest.{Quest, Standing}
@@ -15,7 +15,7 @@ use Rattle.ann_beam.specs.declared.refused.SearchRefused.TheVariants.{Dimension,
 use Rattle.ann_beam.proofs.Readings.{read_none}
 
 -- where there is no segment
-pub searched_none : {S T : Type 0} (tells : Type 0) (bytes : S → List ℕ) (params : Params) (book : BookShown) (dead query : List ℕ) (width : ℕ) (segment : Option (SegmentView S)) (now : Standing) (x : T) → segment ≡ None → IsSearched tells bytes (record { segment = segment; params = params; book = book; dead = dead; query = query; width = width }) now now (Ok x)
+pub searched_none : {S T : Type 0} (tells : Type 0) (bytes : S → List ℕ) (params : Params) (book : CodebookView) (dead query : List ℕ) (width : ℕ) (segment : Option (SegmentView S)) (now : Standing) (x : T) → segment ≡ None → IsSearched tells bytes (record { segment = segment; params = params; book = book; dead = dead; query = query; width = width }) now now (Ok x)
 searched_none {S = S} tells bytes params book dead query width segment now x none =
     let quest : Option (SegmentView S) → Quest S = λ (o : Option (SegmentView S)). record { segment = o; params = params; book = book; dead = dead; query = query; width = width } in
     subst (λ (o : Option (SegmentView S)). IsSearched tells bytes (quest o) now now (Ok x)) (sym none)

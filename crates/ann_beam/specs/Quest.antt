@@ -4,7 +4,7 @@ use Rattle.ann_types.specs.Codes.{Book}
 use Rattle.ann_types.specs.Graph.{Graph, empty_graph}
 use Rattle.ann_types.specs.declared.ask.Ask.{Ask}
 use Rattle.ann_types.specs.declared.params.Params.{Params}
-use Rattle.ann_pq.specs.Codebook.{Shown as BookShown}
+use Rattle.ann_pq.specs.Codebook.{CodebookView}
 use Rattle.ann_segment.specs.Segment.{SegmentView}
 use Rattle.ann_segment.specs.Holds.{Holds}
 use Rattle.ann_beam.specs.Ranking.{RankingView}
@@ -13,12 +13,12 @@ use Rattle.ann_beam.specs.Ranking.{RankingView}
 pub record Quest (S : Type 0) : Type 0 where
   pub segment : Option (SegmentView S)
   pub params : Params
-  pub book : BookShown
+  pub book : CodebookView
   pub dead : List ℕ
   pub query : List ℕ
   pub width : ℕ
 
-abbrev pub quest_of : {S : Type 0} → Option (SegmentView S) → Params → BookShown → List ℕ → Ask → Quest S
+abbrev pub quest_of : {S : Type 0} → Option (SegmentView S) → Params → CodebookView → List ℕ → Ask → Quest S
 quest_of segment params book dead ask =
     record { segment = segment; params = params; book = book; dead = dead; query = ask.vector; width = ask.l }
 

@@ -32,8 +32,10 @@ pub(crate) fn test_neighbours(
     row: u32,
     count: u32,
 ) -> Result<(), BlockRefused>
-    ensures ok { OnOk result (first_broken (neighbour_rules row count (map number_of neighbours.now)) ≡ None) }
-    ensures err { IfErr result (λ why. first_broken (neighbour_rules row count (map number_of neighbours.now)) ≡ Some why) }
+    ensures ok { OnOk result
+        (first_broken (neighbour_rules row count (map number_of neighbours.now)) ≡ None) }
+    ensures err { IfErr result (λ why.
+        first_broken (neighbour_rules row count (map number_of neighbours.now)) ≡ Some why) }
 {
     let mut ascending = true;
     let mut least = 0;

@@ -71,9 +71,11 @@ pub fn write_node(pid: Pid, tag: Tag, vector: &[u8], neighbours: &[u32], block: 
     requires block { length block.old ≡ 4096 }
     ensures written { block.new ≡ node_bytes pid tag vector.now neighbours.now }
     // What was written is read again.
-    ensures accepted { (row count : ℕ) (params : Parameters) → IsNodeOf row count params (record { tag = tag; vector = vector.now; neighbours = neighbours.now })
+    ensures accepted { (row count : ℕ) (params : Parameters) → IsNodeOf row count params
+        (record { tag = tag; vector = vector.now; neighbours = neighbours.now })
         → judge_node block.new pid row count params ≡ None }
-    ensures read_back { node_of (length vector.now) block.new ≡ record { tag = tag; vector = vector.now; neighbours = neighbours.now } }
+    ensures read_back { node_of (length vector.now) block.new
+        ≡ record { tag = tag; vector = vector.now; neighbours = neighbours.now } }
 {
     clear(block);
     put_u32(block, 0, pid);
@@ -93,7 +95,8 @@ pub fn read_node<'a>(
     count: u32,
     params: &Params,
 ) -> Result<Node<'a>, BlockRefused>
-    ensures read { IfOk result (λ node. (judge_node block.now pid row count params.now ≡ None) × (node ≡ node_of params.now.d block.now)) }
+    ensures read { IfOk result (λ node.
+        (judge_node block.now pid row count params.now ≡ None) × (node ≡ node_of params.now.d block.now)) }
     ensures refused { IfErr result (λ why. judge_node block.now pid row count params.now ≡ Some why) }
     // What is read is in the format.
     ensures grammar { IfOk result (λ node. block.now ≡ node_bytes pid node.tag node.vector node.neighbours) }
@@ -112,7 +115,8 @@ fn judged_node<'a>(
     count: u32,
     params: &Params,
 ) -> Result<Node<'a>, BlockRefused>
-    ensures read { IfOk result (λ node. (judge_node block.now pid row count params.now ≡ None) × (node ≡ node_of params.now.d block.now)) }
+    ensures read { IfOk result (λ node.
+        (judge_node block.now pid row count params.now ≡ None) × (node ≡ node_of params.now.d block.now)) }
     ensures refused { IfErr result (λ why. judge_node block.now pid row count params.now ≡ Some why) }
 {
     if block.len() != 4096 {

@@ -8,6 +8,9 @@ pub record Lot : Type 0 where
   pub numbers : ℕ
   pub seats : ℕ
 
+abbrev pub lot_of : TableId → ℕ → ℕ → Lot
+lot_of table_id numbers seats = record { table_id = table_id; numbers = numbers; seats = seats }
+
 -- a claimer of one object, the numbers that it has drawn, in order, and whether it was told that there are no more
 pub record Drawer : Type 0 where
   pub lot : Lot

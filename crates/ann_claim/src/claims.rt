@@ -1,6 +1,6 @@
 // The word, and the claimers that draw from it.
 ghost use Rattle.std.specs.Prelude.{◌≡◌, ◌<◌, ◌≤◌, ◌++◌, [], ◌∷◌, true, false, length, replicate, IfOk, OnSome, IfSome, IfNone, All};
-ghost use Rattle.ann_claim.specs.Claims.{newcomer_of, least_above, all_drawn, IsEachOnce};
+ghost use Rattle.ann_claim.specs.Claims.{lot_of, newcomer_of, least_above, all_drawn, IsEachOnce};
 ghost use Rattle.ann_claim.specs.Rule.{hand};
 
 use crate::rule::{Draw, Drawing, Hand, Limits, OneShare, Settle};
@@ -61,7 +61,8 @@ fn deal(
 ) -> Result<Vec<Claimer>, AllocError>
     requires own { (first.table_id ≡ table.now.shared.table_id) × (0 < table.now.shared.table_id.words) }
     requires whole { (first.me ≡ (hand first.me.0.numbers seats [] 0 seats, [])) × (0 < seats) }
-    ensures { IfOk result (λ r. r.items ≡ replicate seats (newcomer_of (record { table_id = first.table_id; numbers = first.me.0.numbers; seats = seats }))) }
+    ensures { IfOk result (λ r.
+        r.items ≡ replicate seats (newcomer_of (lot_of first.table_id first.me.0.numbers seats))) }
 {
     let mut claimers = Vec::with_capacity(alloc, seats as usize)?;
     for _made in 1..seats {
@@ -108,7 +109,8 @@ impl Claims {
         // A number is below the limit and above all that this claimer has drawn, and joins its list.
         ensures below { IfSome result (λ number. number < self.now.numbers) }
         ensures rises { IfSome result (λ number. least_above claimer.old.drawn ≤ number) }
-        ensures drawn { IfSome result (λ number. claimer.new ≡ record claimer.old { drawn = claimer.old.drawn ++ number ∷ [] }) }
+        ensures drawn { IfSome result (λ number.
+            claimer.new ≡ record claimer.old { drawn = claimer.old.drawn ++ number ∷ [] }) }
 
         // After `None` there is only `None`.
         ensures going { OnSome result (claimer.old.ended ≡ false) }

@@ -4,7 +4,8 @@ use Rattle.std.proofs.lemmas.List.{append-nil, take_all, drop_all}
 use Rattle.std.specs.Prelude.{◌==◌, if◌then◌else◌}
 use mir.Val.{bool_byte}
 use Rattle.ann_dead.specs.Pids.{union, AreAbove, IsAscending}
-use Rattle.ann_dead.proofs.Sets.{order_cases, eq_yes, eq_no, above_trans, union_left, union_right, union_both, union_nothing}
+use Rattle.ann_types.proofs.Booleans.{not_same, same_true}
+use Rattle.ann_dead.proofs.Sets.{order_cases, above_trans, union_left, union_right, union_both, union_nothing}
 
 abbrev past : Bool → ℕ → List ℕ → List ℕ
 past b x xs = if b then xs else x ∷ xs
@@ -15,15 +16,15 @@ front_step x xs y ys m a b least =
     (λ less.
     let is : x ≡ m = omega arith in
     union_left x xs (y ∷ ys) a.0 (less, above_trans x y ys less b.0) ∙ ap (λ (n : ℕ). n ∷ union xs (y ∷ ys)) is
-    ∙ ap (λ t. m ∷ union (past t x xs) (y ∷ ys)) (sym (eq_yes x m is)) ∙ ap (λ t. m ∷ union (past (x == m) x xs) (past t y ys)) (sym (eq_no y m (λ e. omega arith))))
+    ∙ ap (λ t. m ∷ union (past t x xs) (y ∷ ys)) (sym (same_true x m is)) ∙ ap (λ t. m ∷ union (past (x == m) x xs) (past t y ys)) (sym (not_same y m (λ e. omega arith))))
     (λ same.
     let is : x ≡ m = omega arith in
     ap (λ (n : ℕ). union (x ∷ xs) (n ∷ ys)) (sym same) ∙ union_both x xs ys a.0 ∙ ap (λ (n : ℕ). n ∷ union xs ys) is
-    ∙ ap (λ t. m ∷ union (past t x xs) ys) (sym (eq_yes x m is)) ∙ ap (λ t. m ∷ union (past (x == m) x xs) (past t y ys)) (sym (eq_yes y m (omega arith))))
+    ∙ ap (λ t. m ∷ union (past t x xs) ys) (sym (same_true x m is)) ∙ ap (λ t. m ∷ union (past (x == m) x xs) (past t y ys)) (sym (same_true y m (omega arith))))
     (λ more.
     let is : y ≡ m = omega arith in
     union_right (x ∷ xs) y ys (more, above_trans y x xs more a.0) ∙ ap (λ (n : ℕ). n ∷ union (x ∷ xs) ys) is
-    ∙ ap (λ t. m ∷ union (x ∷ xs) (past t y ys)) (sym (eq_yes y m is)) ∙ ap (λ t. m ∷ union (past t x xs) (past (y == m) y ys)) (sym (eq_no x m (λ e. omega arith))))
+    ∙ ap (λ t. m ∷ union (x ∷ xs) (past t y ys)) (sym (same_true y m is)) ∙ ap (λ t. m ∷ union (past t x xs) (past (y == m) y ys)) (sym (not_same x m (λ e. omega arith))))
 
 above_drop : (x n : ℕ) (xs : List ℕ) → AreAbove x xs → AreAbove x (drop n xs)
 above_drop x zero xs h = h
@@ -66,9 +67,9 @@ still_in b i d n is less = let one = one_at_most b in omega arith
 pub falls : (x y m i j d e a b : ℕ) → m ≡ min x y → d ≡ (if x == m then 1 else 0) → e ≡ (if y == m then 1 else 0) → i < a → j < b → (a - (i + d)) + (b - (j + e)) < (a - i) + (b - j)
 falls x y m i j d e a b least d_is e_is in_a in_b =
     order_cases x y
-    (λ less. let one : d ≡ 1 = d_is ∙ ap (λ (t : Bool). if t then 1 else 0) (eq_yes x m (omega arith)) in omega arith)
-    (λ same. let one : d ≡ 1 = d_is ∙ ap (λ (t : Bool). if t then 1 else 0) (eq_yes x m (omega arith)) in omega arith)
-    (λ more. let one : e ≡ 1 = e_is ∙ ap (λ (t : Bool). if t then 1 else 0) (eq_yes y m (omega arith)) in omega arith)
+    (λ less. let one : d ≡ 1 = d_is ∙ ap (λ (t : Bool). if t then 1 else 0) (same_true x m (omega arith)) in omega arith)
+    (λ same. let one : d ≡ 1 = d_is ∙ ap (λ (t : Bool). if t then 1 else 0) (same_true x m (omega arith)) in omega arith)
+    (λ more. let one : e ≡ 1 = e_is ∙ ap (λ (t : Bool). if t then 1 else 0) (same_true y m (omega arith)) in omega arith)
 
 -- what has gone out and what is left are still the union
 pub merge_more : (xs ys out out' : List ℕ) (i k m d e : ℕ) → IsAscending xs → IsAscending ys → i < length xs → k < length ys → m ≡ min (get_or xs i 0) (get_or ys k 0)

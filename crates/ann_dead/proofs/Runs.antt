@@ -7,11 +7,13 @@ use Rattle.std.proofs.Math.Seq.{take-suc}
 use Rattle.std.proofs.Math.Pow.{pow_mono}
 use mathlib.Core.Logic.{dite}
 use Rattle.std.proofs.Math.Decide.{dec_lt}
-use Rattle.ann_dead.specs.Pids.{has, with_pid, union, union_of, AreBelow, IsAscending}
+use Rattle.ann_types.specs.Order.{has}
+use Rattle.ann_types.proofs.Booleans.{or_assoc}
+use Rattle.ann_dead.specs.Pids.{with_pid, union, union_of, AreBelow, IsAscending}
 use Rattle.ann_dead.specs.Digits.{digits_of, carried}
 use Rattle.ann_dead.specs.Run.{IsRun}
 use Rattle.ann_dead.specs.Dead.{total, sizes, AreRuns, AreDigits}
-use Rattle.ann_dead.proofs.Sets.{order_cases, with_less, with_same, with_more, has_with, has_union, ascending_union, ascending_union_of, ascending_with, same_set, length_union_le, length_union_of_le, length_with_new, length_ascending, union_nothing, or_assoc}
+use Rattle.ann_dead.proofs.Sets.{order_cases, with_less, with_same, with_more, has_with, has_union, ascending_union, ascending_union_of, ascending_with, same_set, length_union_le, length_union_of_le, length_with_new, length_ascending, union_nothing}
 use Rattle.ann_dead.proofs.Digits.{digits-next, digits-zero, length-digits, carried_same}
 
 -- Members
@@ -24,20 +26,20 @@ any_run (r ∷ rs) p = ap (λ b. has r p || b) (any_run rs p) ∙ sym (has_union
 pub has_union_of_append : (rs ss : List (List ℕ)) (p : ℕ) → has (union_of (rs ++ ss)) p ≡ (has (union_of rs) p || has (union_of ss) p)
 has_union_of_append [] ss p = refl
 has_union_of_append (r ∷ rs) ss p =
-    has_union r (union_of (rs ++ ss)) p ∙ ap (λ b. has r p || b) (has_union_of_append rs ss p) ∙ sym (or_assoc (has r p) (has (union_of rs) p) (has (union_of ss) p))
+    has_union r (union_of (rs ++ ss)) p ∙ ap (λ b. has r p || b) (has_union_of_append rs ss p) ∙ or_assoc (has r p) (has (union_of rs) p) (has (union_of ss) p)
     ∙ ap (λ b. b || has (union_of ss) p) (sym (has_union r (union_of rs) p))
 
-or_swap : (a b : Bool) → (a || (b || false)) ≡ (b || a)
-or_swap true true = refl
-or_swap true false = refl
-or_swap false true = refl
-or_swap false false = refl
+or_end : (a b : Bool) → (a || (b || false)) ≡ (b || a)
+or_end true true = refl
+or_end true false = refl
+or_end false true = refl
+or_end false false = refl
 
 -- a Pid alone is a run more
 pub union_of_one_more : (rs : List (List ℕ)) (p : ℕ) → union_of (rs ++ (p ∷ []) ∷ []) ≡ with_pid p (union_of rs)
 union_of_one_more rs p =
     same_set (union_of (rs ++ (p ∷ []) ∷ [])) (with_pid p (union_of rs)) (ascending_union_of (rs ++ (p ∷ []) ∷ [])) (ascending_with p (union_of rs) (ascending_union_of rs))
-    (λ q. has_union_of_append rs ((p ∷ []) ∷ []) q ∙ or_swap (has (union_of rs) q) (p == q) ∙ sym (has_with p (union_of rs) q))
+    (λ q. has_union_of_append rs ((p ∷ []) ∷ []) q ∙ or_end (has (union_of rs) q) (q == p) ∙ sym (has_with p (union_of rs) q))
 
 -- the runs in front stay
 pub union_of_front : (ps qs ss : List (List ℕ)) → union_of qs ≡ union_of ss → union_of (ps ++ qs) ≡ union_of (ps ++ ss)

@@ -7,8 +7,9 @@ use Rattle.std.proofs.lemmas.List.Sorted.{searched}
 use Rattle.std.proofs.Math.Bool.{or-true}
 use mathlib.Core.Logic.{dite}
 use Rattle.std.proofs.Math.Decide.{dec_lt}
-use Rattle.ann_dead.specs.Pids.{has, AreAbove, IsAscending}
-use Rattle.ann_dead.proofs.Sets.{eq_yes, eq_no}
+use Rattle.ann_types.specs.Order.{has}
+use Rattle.ann_types.proofs.Booleans.{not_same, same_true}
+use Rattle.ann_dead.specs.Pids.{AreAbove, IsAscending}
 
 above_at : (p : ℕ) (xs : List ℕ) (k : ℕ) → AreAbove p xs → k < length xs → p < get_or xs k 0
 above_at p [] k h less = absurd (omega arith)
@@ -24,12 +25,12 @@ ascending_at (x ∷ xs) (suc i) (suc j) h le less = ascending_at xs i j h.1 (ome
 
 has_at : (xs : List ℕ) (p k : ℕ) → k < length xs → get_or xs k 0 ≡ p → has xs p ≡ true
 has_at [] p k less is = absurd (omega arith)
-has_at (x ∷ xs) p zero less is = ap (λ b. b || has xs p) (eq_yes x p is)
-has_at (x ∷ xs) p (suc k) less is = ap (λ b. (x == p) || b) (has_at xs p k (omega arith) is) ∙ or-true (x == p)
+has_at (x ∷ xs) p zero less is = ap (λ b. b || has xs p) (same_true p x (sym is))
+has_at (x ∷ xs) p (suc k) less is = ap (λ b. (p == x) || b) (has_at xs p k (omega arith) is) ∙ or-true (p == x)
 
 has_nowhere : (xs : List ℕ) (p : ℕ) → ((k : ℕ) → k < length xs → get_or xs k 0 ≢ p) → has xs p ≡ false
 has_nowhere [] p h = refl
-has_nowhere (x ∷ xs) p h = ap (λ b. b || has xs p) (eq_no x p (h zero (omega arith))) ∙ has_nowhere xs p (λ k less. h (suc k) (omega arith))
+has_nowhere (x ∷ xs) p h = ap (λ b. b || has xs p) (not_same p x (λ e. h zero (omega arith) (sym e))) ∙ has_nowhere xs p (λ k less. h (suc k) (omega arith))
 
 pub found : (xs : List ℕ) (p : ℕ) (r : Result ℕ ℕ) → IsAscending xs → IsBinarySearchResult (λ y. nat_cmp y p) xs r → is_ok r ≡ has xs p
 found xs p (Ok i) up h = let s = searched xs p (Ok i) h (λ a b. ascending_at xs a b up) in sym (has_at xs p i s.0 s.1)

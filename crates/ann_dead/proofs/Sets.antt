@@ -1,11 +1,13 @@
 -- Sets of Pids as ascending lists.
-use Rattle.std.proofs.Common.{◌≡◌, ◌≢◌, ℕ, ◌+◌, ◌<◌, ◌≤◌, Bool, true, false, List, [], ◌∷◌, ◌++◌, length, refl, sym, ap, ◌∙◌, subst, filter, arith}
-use Rattle.std.specs.Prelude.{◌==◌, ◌||◌, ◌&&◌, if◌then◌else◌}
+use Rattle.std.proofs.Common.{◌≡◌, ℕ, ◌+◌, ◌<◌, ◌≤◌, Bool, true, false, List, [], ◌∷◌, length, refl, sym, ap, ◌∙◌, subst, filter, arith}
+use Rattle.std.specs.Prelude.{◌==◌, ◌||◌, if◌then◌else◌}
 use Rattle.std.proofs.lemmas.Bool.Decides.{nat_tests}
 use Rattle.std.proofs.Math.Decide.{dec_lt}
 use mathlib.Core.Logic.{dite}
 use native.Mathlib.Decide.{ℕ_discrete}
-use Rattle.ann_dead.specs.Pids.{has, with_pid, union, union_of, AreAbove, AreBelow, IsAscending}
+use Rattle.ann_types.specs.Order.{has}
+use Rattle.ann_types.proofs.Booleans.{not_same, or_assoc, or_swap, or_twice, same_true}
+use Rattle.ann_dead.specs.Pids.{with_pid, union, union_of, AreAbove, AreBelow, IsAscending}
 use Rattle.ann_dead.specs.Dead.{total}
 
 -- The three cases of a Pid that comes in
@@ -23,43 +25,19 @@ module _ {ℓ} {P : Type ℓ} where
   pub order_cases : (p x : ℕ) → (p < x → P) → (p ≡ x → P) → (x < p → P) → P
   order_cases p x less same more = dite (dec_lt p x) less (λ not_less. dite (ℕ_discrete p x) same (λ apart. more (omega arith)))
 
-pub eq_yes : (p x : ℕ) → p ≡ x → (p == x) ≡ true
-eq_yes p x h = grind (arith, nat_tests)
-
-pub eq_no : (p x : ℕ) → p ≢ x → (p == x) ≡ false
-eq_no p x h = grind (arith, nat_tests)
-
-or_again : (a b : Bool) → (a || b) ≡ (a || (a || b))
-or_again true b = refl
-or_again false b = refl
-
-or_turn : (a b c : Bool) → (a || (b || c)) ≡ (b || (a || c))
-or_turn true true c = refl
-or_turn true false c = refl
-or_turn false true c = refl
-or_turn false false c = refl
-
-pub or_assoc : (a b c : Bool) → ((a || b) || c) ≡ (a || (b || c))
-or_assoc true b c = refl
-or_assoc false b c = refl
-
 -- Members
 
-pub has_with : (p : ℕ) (xs : List ℕ) (q : ℕ) → has (with_pid p xs) q ≡ ((p == q) || has xs q)
+pub has_with : (p : ℕ) (xs : List ℕ) (q : ℕ) → has (with_pid p xs) q ≡ ((q == p) || has xs q)
 has_with p [] q = refl
 has_with p (x ∷ xs) q =
     order_cases p x
     (λ less. ap (λ l. has l q) (with_less p x xs less))
-    (λ same. ap (λ l. has l q) (with_same p x xs same) ∙ or_again (x == q) (has xs q) ∙ ap (λ y. (y == q) || ((x == q) || has xs q)) (sym same))
-    (λ more. ap (λ l. has l q) (with_more p x xs more) ∙ ap (λ b. (x == q) || b) (has_with p xs q) ∙ or_turn (x == q) (p == q) (has xs q))
+    (λ same. ap (λ l. has l q) (with_same p x xs same) ∙ sym (or_twice (q == x) (has xs q)) ∙ ap (λ y. (q == y) || ((q == x) || has xs q)) (sym same))
+    (λ more. ap (λ l. has l q) (with_more p x xs more) ∙ ap (λ b. (q == x) || b) (has_with p xs q) ∙ or_swap (q == x) (q == p) (has xs q))
 
 pub has_union : (xs ys : List ℕ) (q : ℕ) → has (union xs ys) q ≡ (has xs q || has ys q)
 has_union [] ys q = refl
-has_union (x ∷ xs) ys q = has_with x (union xs ys) q ∙ ap (λ b. (x == q) || b) (has_union xs ys q) ∙ sym (or_assoc (x == q) (has xs q) (has ys q))
-
-pub has_append : (xs ys : List ℕ) (q : ℕ) → has (xs ++ ys) q ≡ (has xs q || has ys q)
-has_append [] ys q = refl
-has_append (x ∷ xs) ys q = ap (λ b. (x == q) || b) (has_append xs ys q) ∙ sym (or_assoc (x == q) (has xs q) (has ys q))
+has_union (x ∷ xs) ys q = has_with x (union xs ys) q ∙ ap (λ b. (q == x) || b) (has_union xs ys q) ∙ or_assoc (q == x) (has xs q) (has ys q)
 
 -- Order
 
@@ -98,29 +76,29 @@ ascending_union_of (s ∷ sets) = ascending_union s (union_of sets) (ascending_u
 -- nothing at or below p is among what is above it
 pub above_lacks : (p q : ℕ) (xs : List ℕ) → q ≤ p → AreAbove p xs → has xs q ≡ false
 above_lacks p q [] le h = refl
-above_lacks p q (x ∷ xs) le h = let apart = eq_no x q (λ e. omega arith) in ap (λ b. b || has xs q) apart ∙ above_lacks p q xs le h.1
+above_lacks p q (x ∷ xs) le h = let apart = not_same q x (λ e. omega arith) in ap (λ b. b || has xs q) apart ∙ above_lacks p q xs le h.1
 
 -- Two ascending lists with the same members are one
 
 first_same : (x y : ℕ) (xs ys : List ℕ) → AreAbove x xs → AreAbove y ys → ((q : ℕ) → has (x ∷ xs) q ≡ has (y ∷ ys) q) → x ≡ y
 first_same x y xs ys a b same =
     order_cases x y
-    (λ less. let no : has (y ∷ ys) x ≡ false = ap (λ t. t || has ys x) (eq_no y x (λ e. omega arith)) ∙ above_lacks y x ys (omega arith) b in
-    let yes : has (x ∷ xs) x ≡ true = ap (λ t. t || has xs x) (eq_yes x x refl) in cc (same x))
+    (λ less. let no : has (y ∷ ys) x ≡ false = ap (λ t. t || has ys x) (not_same x y (λ e. omega arith)) ∙ above_lacks y x ys (omega arith) b in
+    let yes : has (x ∷ xs) x ≡ true = ap (λ t. t || has xs x) (same_true x x refl) in cc (same x))
     (λ e. e)
-    (λ more. let no : has (x ∷ xs) y ≡ false = ap (λ t. t || has xs y) (eq_no x y (λ e. omega arith)) ∙ above_lacks x y xs (omega arith) a in
-    let yes : has (y ∷ ys) y ≡ true = ap (λ t. t || has ys y) (eq_yes y y refl) in cc (same y))
+    (λ more. let no : has (x ∷ xs) y ≡ false = ap (λ t. t || has xs y) (not_same y x (λ e. omega arith)) ∙ above_lacks x y xs (omega arith) a in
+    let yes : has (y ∷ ys) y ≡ true = ap (λ t. t || has ys y) (same_true y y refl) in cc (same y))
 
 rest_same : (x : ℕ) (xs ys : List ℕ) → AreAbove x xs → AreAbove x ys → ((q : ℕ) → has (x ∷ xs) q ≡ has (x ∷ ys) q) → (q : ℕ) → has xs q ≡ has ys q
 rest_same x xs ys a b same q =
     dite (ℕ_discrete x q)
     (λ e. above_lacks x q xs (omega arith) a ∙ sym (above_lacks x q ys (omega arith) b))
-    (λ apart. let no = eq_no x q apart in sym (ap (λ t. t || has xs q) no) ∙ same q ∙ ap (λ t. t || has ys q) no)
+    (λ apart. let no = not_same q x (λ e. apart (sym e)) in sym (ap (λ t. t || has xs q) no) ∙ same q ∙ ap (λ t. t || has ys q) no)
 
 pub same_set : (xs ys : List ℕ) → IsAscending xs → IsAscending ys → ((q : ℕ) → has xs q ≡ has ys q) → xs ≡ ys
 same_set [] [] a b same = refl
-same_set [] (y ∷ ys) a b same = let yes : has (y ∷ ys) y ≡ true = ap (λ t. t || has ys y) (eq_yes y y refl) in cc (same y)
-same_set (x ∷ xs) [] a b same = let yes : has (x ∷ xs) x ≡ true = ap (λ t. t || has xs x) (eq_yes x x refl) in cc (same x)
+same_set [] (y ∷ ys) a b same = let yes : has (y ∷ ys) y ≡ true = ap (λ t. t || has ys y) (same_true y y refl) in cc (same y)
+same_set (x ∷ xs) [] a b same = let yes : has (x ∷ xs) x ≡ true = ap (λ t. t || has xs x) (same_true x x refl) in cc (same x)
 same_set (x ∷ xs) (y ∷ ys) a b same =
     let first = first_same x y xs ys a.0 b.0 same in
     let b' : AreAbove x ys = subst (λ (n : ℕ). AreAbove n ys) (sym first) b.0 in
@@ -142,8 +120,8 @@ length_with_new p [] h = omega arith
 length_with_new p (x ∷ xs) h =
     order_cases p x
     (λ l. let e = ap length (with_less p x xs l) in omega arith)
-    (λ s. let yes = ap (λ t. t || has xs p) (eq_yes x p (sym s)) in cc)
-    (λ m. let no = ap (λ t. t || has xs p) (eq_no x p (λ e. omega arith)) in let e = ap length (with_more p x xs m) in let r = length_with_new p xs (sym no ∙ h) in omega arith)
+    (λ s. let yes = ap (λ t. t || has xs p) (same_true p x s) in cc)
+    (λ m. let no = ap (λ t. t || has xs p) (not_same p x (λ e. omega arith)) in let e = ap length (with_more p x xs m) in let r = length_with_new p xs (sym no ∙ h) in omega arith)
 
 pub length_union_le : (xs ys : List ℕ) → length (union xs ys) ≤ length xs + length ys
 length_union_le [] ys = omega arith
@@ -186,27 +164,9 @@ with_present p (x ∷ xs) there h =
     order_cases p x
     (λ less. let no : has (x ∷ xs) p ≡ false = above_lacks p p (x ∷ xs) (omega arith) (less, above_trans p x xs less h.0) in cc)
     (λ same. with_same p x xs same)
-    (λ more. let no = ap (λ t. t || has xs p) (eq_no x p (λ e. omega arith)) in with_more p x xs more ∙ ap (λ l. x ∷ l) (with_present p xs (sym no ∙ there) h.1))
+    (λ more. let no = ap (λ t. t || has xs p) (not_same p x (λ e. omega arith)) in with_more p x xs more ∙ ap (λ l. x ∷ l) (with_present p xs (sym no ∙ there) h.1))
 
 -- Removing
-
-and_false : (b : Bool) → (b && false) ≡ false
-and_false true = refl
-and_false false = refl
-
-has_filter_by : (test : ℕ → Bool) (x : ℕ) (ys : List ℕ) (rest : Bool) (q : ℕ) (b : Bool) → test x ≡ b → has ys q ≡ (rest && test q) → has (if b then x ∷ ys else ys) q ≡ (((x == q) || rest) && test q)
-has_filter_by test x ys rest q true keeps same =
-    dite (ℕ_discrete x q)
-    (λ e. let here = eq_yes x q e in let kept : test q ≡ true = ap test (sym e) ∙ keeps in ap (λ t. t || has ys q) here ∙ sym (ap (λ t. (t || rest) && test q) here ∙ kept))
-    (λ apart. let other = eq_no x q apart in ap (λ t. t || has ys q) other ∙ same ∙ ap (λ t. (t || rest) && test q) (sym other))
-has_filter_by test x ys rest q false drops same =
-    dite (ℕ_discrete x q)
-    (λ e. let here = eq_yes x q e in let out : test q ≡ false = ap test (sym e) ∙ drops in same ∙ ap (λ t. rest && t) out ∙ and_false rest ∙ sym (ap (λ t. (t || rest) && test q) here ∙ out))
-    (λ apart. same ∙ ap (λ t. (t || rest) && test q) (sym (eq_no x q apart)))
-
-pub has_filter : (test : ℕ → Bool) (xs : List ℕ) (q : ℕ) → has (filter test xs) q ≡ (has xs q && test q)
-has_filter test [] q = refl
-has_filter test (x ∷ xs) q = has_filter_by test x (filter test xs) (has xs q) q (test x) refl (has_filter test xs q)
 
 above_by : (p x : ℕ) (ys : List ℕ) (b : Bool) → p < x → AreAbove p ys → AreAbove p (if b then x ∷ ys else ys)
 above_by p x ys true less h = (less, h)

@@ -1,19 +1,12 @@
 -- Sets of Pids, each an ascending list.
-use Rattle.std.specs.Prelude.{ℕ, ◌<◌, ◌==◌, ◌||◌, Bool, false, not, nat_lt, if◌then◌else◌, List, [], ◌∷◌, filter}
-
--- whether the Pid is in the set
-abbrev pub has : List ℕ → ℕ → Bool
-has [] pid = false
-has (x ∷ xs) pid = (x == pid) || has xs pid
+use Rattle.std.specs.Prelude.{ℕ, ◌<◌, ◌==◌, nat_lt, if◌then◌else◌, List, [], ◌∷◌}
+pub use Rattle.ann_types.specs.Order.{has}
+pub use Rattle.ann_types.specs.Merge.{without}
 
 -- the set with one Pid more, which may be there already
 abbrev pub with_pid : ℕ → List ℕ → List ℕ
 with_pid pid [] = pid ∷ []
 with_pid pid (x ∷ xs) = if nat_lt pid x then pid ∷ x ∷ xs else if pid == x then x ∷ xs else x ∷ with_pid pid xs
-
--- the set without all that another has
-abbrev pub without : List ℕ → List ℕ → List ℕ
-without set other = filter (λ pid. not (has other pid)) set
 
 -- the Pids of both
 abbrev pub union : List ℕ → List ℕ → List ℕ

@@ -16,9 +16,11 @@ pub(crate) fn carry(alloc: Global, runs: &[Run], pid: u32) -> Result<(usize, Run
     requires new { length (union_of (runs.now ++ (pid ∷ []) ∷ [])) ≡ total runs.now + 1 }
     ensures kept { IfOk result (λ made. made.0 ≤ length runs.now) }
     ensures run { IfOk result (λ made. IsRun made.1) }
-    ensures pids { IfOk result (λ made. union_of (take made.0 runs.now ++ made.1 ∷ []) ≡ union_of (runs.now ++ (pid ∷ []) ∷ [])) }
+    ensures pids { IfOk result (λ made.
+        union_of (take made.0 runs.now ++ made.1 ∷ []) ≡ union_of (runs.now ++ (pid ∷ []) ∷ [])) }
     ensures total { IfOk result (λ made. total (take made.0 runs.now ++ made.1 ∷ []) ≡ total runs.now + 1) }
-    ensures sizes { IfOk result (λ made. sizes (take made.0 runs.now ++ made.1 ∷ []) ≡ carried (sizes runs.now) 1) }
+    ensures sizes { IfOk result (λ made.
+        sizes (take made.0 runs.now ++ made.1 ∷ []) ≡ carried (sizes runs.now) 1) }
 {
     let mut pids = vec![in alloc; pid]?;
     let mut kept = runs.len();

@@ -1,6 +1,8 @@
 // The set of deleted Pids.
 ghost use Rattle.std.specs.Prelude.{◌≡◌, ◌↔◌, ℕ, ◌||◌, ◌&&◌, not, [], IsTrue, IfOk, OnOk, OnErr};
-ghost use Rattle.ann_dead.specs.Pids.{has, with_pid, without, IsAscending};
+ghost use Rattle.ann_types.specs.Order.{has};
+ghost use Rattle.ann_types.specs.Merge.{without};
+ghost use Rattle.ann_dead.specs.Pids.{with_pid, IsAscending};
 
 use crate::carry::carry;
 use crate::run::Run;
@@ -82,7 +84,7 @@ impl Dead {
     ///
     /// Only where there is no memory. The set is then as it was.
     pub fn remove_all(&mut self, of: &Dead) -> Result<(), AllocError>
-        ensures removed { OnOk result (self.new ≡ without self.old of.now) }
+        ensures removed { OnOk result (self.new ≡ without of.now self.old) }
         ensures kept { OnErr result (self.new ≡ self.old) }
     {
         let mut left = Dead::new(*self.runs.allocator());
@@ -97,7 +99,8 @@ impl Dead {
     fn add_all_but(&mut self, run: &Run, of: &Dead) -> Result<(), AllocError>
         requires { IsAscending self.old }
         ensures ascending { OnOk result (IsAscending self.new) }
-        ensures members { OnOk result ((pid : ℕ) → has self.new pid ≡ (has self.old pid || (has run.now pid && not (has of.now pid)))) }
+        ensures members { OnOk result ((pid : ℕ) →
+            has self.new pid ≡ (has self.old pid || (has run.now pid && not (has of.now pid)))) }
     {
         for pid in run.pids() {
             if !of.contains(*pid) {

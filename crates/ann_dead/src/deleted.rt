@@ -1,6 +1,6 @@
 // What a search asks of a set of deleted Pids.
 ghost use Rattle.std.specs.Prelude.{◌≡◌, ℕ, List};
-ghost use Rattle.ann_dead.specs.Pids.{has};
+ghost use Rattle.ann_types.specs.Order.{has};
 
 use crate::dead::Dead;
 use crate::pin::DeadPin;

@@ -1,6 +1,6 @@
 // One run: Pids in order, which never change and may be shared.
 ghost use Rattle.std.specs.Prelude.{◌≡◌, [], IfOk};
-ghost use Rattle.ann_dead.specs.Pids.{has};
+ghost use Rattle.ann_types.specs.Order.{has};
 ghost use Rattle.ann_dead.specs.Run.{IsRun};
 
 use std::alloc::AllocError;

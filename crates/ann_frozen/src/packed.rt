@@ -64,7 +64,8 @@ impl Packed {
         requires vector { length vector.now ≡ self.old.width }
         requires few { length neighbours.now ≤ 128 }
         ensures width { self.new.width ≡ self.old.width }
-        ensures nodes { OnOk result (self.new.nodes ≡ self.old.nodes ++ new_node pid tag vector.now neighbours.now ∷ []) }
+        ensures nodes { let node = new_node pid tag vector.now neighbours.now in
+            OnOk result (self.new.nodes ≡ self.old.nodes ++ node ∷ []) }
         ensures kept { OnErr result (self.new.nodes ≡ self.old.nodes) }
     {
         self.labels.reserve(1)?;

@@ -9,6 +9,8 @@ use Rattle.ann_pool.specs.Pool.{offered, pooled, fresh, unvisited, marked, IsSam
 use Rattle.ann_types.specs.Order.{before, placed, has}
 use Rattle.ann_types.proofs.Ordered.{cut_placed, IsAfter, IsRising, before-irreflexive, placed_there, has_append}
 use Rattle.ann_greedy.specs.Shows.{item, seen, AreFar}
+use Rattle.ann_types.proofs.Booleans.{or_false}
+use Rattle.ann_types.proofs.Options.{none_some, some_is}
 
 offered_item : (far : ℕ → ℕ) (v : List ℕ) (x : ℕ) (s : List ℕ) → offered (item far v x) (map (item far v) s) ≡ map (item far v) (placed far x s)
 offered_item far v x [] = refl
@@ -20,12 +22,6 @@ offered_item far v x (y ∷ s) =
         | false ↦ ap (λ t. item far v y ∷ t) (offered_item far v x s)
       ]
     ]
-
-pub none_some : {A : Type 0} (p : A) → None ≡ Some p → ⊥
-none_some p e = cc
-
-pub some_is : {A : Type 0} (x y : A) → Some x ≡ Some y → x ≡ y
-some_is x y e = cc
 
 head_is : (x y : ℕ) (s t : List ℕ) → x ∷ s ≡ y ∷ t → x ≡ y
 head_is x y s t e = cc
@@ -65,10 +61,6 @@ pooled_is far v n x order r h =
           ∙ take-map (item far v) n (placed far x (take n order))
           ∙ ap (map (item far v)) (cut_placed far n x order)
     ] refl
-
-or_false : (a : Bool) → (a || false) ≡ a
-or_false true = refl
-or_false false = refl
 
 pub has_push : (v : List ℕ) (p z : ℕ) → has (v ++ p ∷ []) z ≡ (has v z || eqb z p)
 has_push v p z = has_append v (p ∷ []) z ∙ ap (λ t. has v z || t) (or_false (eqb z p))

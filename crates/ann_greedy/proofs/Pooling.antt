@@ -18,7 +18,7 @@ use Rattle.ann_greedy.specs.Shows.{item, seen, Shows, ShowsWalk, IsOver, GoesOn,
 use Rattle.ann_greedy.proofs.Pooled.{pooled_is, has_push, find_item, marked_is, all_seen, marked_none, some_map, none_map}
 
 -- what stands in order rises
-rising_from : (far : ℕ → ℕ) (order : List ℕ) → in_order far order ≡ order → IsRising far order
+pub rising_from : (far : ℕ → ℕ) (order : List ℕ) → in_order far order ≡ order → IsRising far order
 rising_from far order e = subst (IsRising far) e (rising_in_order far order)
 
 or_true : (a : Bool) → (a || true) ≡ true

@@ -1,27 +1,13 @@
 -- What a prune keeps is settled: none of the kept candidates leaves out a later one.
-use Rattle.std.proofs.Common.{◌≡◌, ℕ, ◌*◌, Bool, true, false, cond, leb, not, List, [], ◌∷◌, ◌++◌, ◌||◌, ◌⊎◌, refl, sym, ap, ◌∙◌, inl, inr, eqb-true, eq-eqb}
-use Rattle.std.specs.List.{list_any}
+use Rattle.std.proofs.Common.{◌≡◌, ℕ, ◌*◌, true, false, cond, leb, List, [], ◌∷◌, ◌++◌, ◌⊎◌, refl, sym, ap, ◌∙◌, inl, inr, eqb-true, eq-eqb}
 use Rattle.std.proofs.lemmas.Bool.{false≢true, and_parts, or_cases}
 use Rattle.ann_types.specs.Order.{has, before, in_order}
 use Rattle.ann_types.specs.Kept.{Rule, covered, takes, keep, kept}
 use Rattle.ann_types.proofs.Ordered.{IsRising, before-irreflexive, before-asymmetric, after_has, has_append, has_cases, has_later, has_here, rising_in_order}
 use Rattle.ann_types.proofs.Sets.{has_ascending}
 use Rattle.ann_prune.specs.Newer.{leaves_out, AreSettled}
-
-none_any : (f : ℕ → Bool) (xs : List ℕ) (x : ℕ) → list_any f xs ≡ false → has xs x ≡ true → f x ≡ false
-none_any f [] x n h = absurd (false≢true h)
-none_any f (y ∷ ys) x n h =
-    elim (f y) as (λ t. f y ≡ t → (t || list_any f ys) ≡ false → f x ≡ false) [
-      | true ↦ λ e k. absurd (false≢true (sym k))
-      | false ↦ λ e k. elim (has_cases y x ys h) [
-        | inl same ↦ ap f (eqb-true x y same) ∙ e
-        | inr there ↦ none_any f ys x k there
-      ]
-    ] refl n
-
-not_true : (t : Bool) → not t ≡ true → t ≡ false
-not_true true e = absurd (false≢true e)
-not_true false e = refl
+use Rattle.ann_types.proofs.Booleans.{not_true}
+use Rattle.ann_types.proofs.Merges.{none_any}
 
 module _ (rule : Rule) (apart : ℕ → ℕ → ℕ) (p : ℕ) where
   -- none of these leaves out a later one

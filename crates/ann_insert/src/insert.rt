@@ -2,9 +2,8 @@ ghost use Rattle.std.specs.Prelude.{◌≡◌, ◌≤◌, ◌<◌, ◌++◌, ◌
 ghost use Rattle.ann_types.specs.Put.{put as put_of};
 ghost use Rattle.ann_types.specs.Kept.{rule_of, kept as kept_by};
 ghost use Rattle.ann_types.specs.Legal.{pid_end};
-ghost use Rattle.ann_greedy.specs.Rows.{visited_rows};
-ghost use Rattle.ann_table.specs.Node.{node_at, linked, rows_of, apart_rows, row_pids, graph_of};
-ghost use Rattle.ann_insert.specs.Back.{most};
+ghost use Rattle.ann_table.specs.Node.{node_at, linked, apart_rows, row_pids, graph_of};
+ghost use Rattle.ann_insert.specs.Scratch.{IsReady};
 
 use crate::back::link_all_back;
 use crate::gather::gather;
@@ -27,13 +26,7 @@ fn prepare(table: &mut Table, scratch: &mut PutScratch, vector: &[u8]) -> Result
     ensures params { table.new.params ≡ table.old.params }
     ensures nodes { table.new.nodes ≡ table.old.nodes }
     ensures spare { OnOk result (1 ≤ table.new.spare) }
-    ensures visited { let rows = rows_of table.old.params table.old.nodes in
-        OnOk result
-        (scratch.new.visited.items ≡ visited_rows rows vector.now table.old.params.l_build rows.start) }
-    ensures rows { All (λ row. row < length table.old.nodes) scratch.new.visited.items }
-    ensures empty { scratch.new.candidates.rows ≡ [] }
-    ensures room { OnOk result (length scratch.new.visited.items ≤ scratch.new.candidates.room) }
-    ensures back { OnOk result (most ≤ scratch.new.candidates.room) }
+    ensures ready { IsReady table.old.params table.old.nodes vector.now result scratch.new }
 {
     table.known();
     scratch.candidates.clear();
@@ -57,7 +50,8 @@ fn link(
     requires empty { candidates.old.rows ≡ [] }
     requires room { length others.now ≤ candidates.old.room }
     ensures params { table.new.params ≡ table.old.params }
-    ensures kept { kept.new.items ≡ kept_by (rule_of table.old.params) (apart_rows table.old.nodes) row others.now }
+    ensures kept { let apart = apart_rows table.old.nodes in
+        kept.new.items ≡ kept_by (rule_of table.old.params) apart row others.now }
     ensures nodes { table.new.nodes ≡ linked table.old.nodes row kept.new.items (length table.old.nodes) }
     ensures emptied { candidates.new.rows ≡ [] }
     ensures kept_room { candidates.old.room ≤ candidates.new.room }

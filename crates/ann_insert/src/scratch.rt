@@ -1,4 +1,4 @@
-ghost use Rattle.std.specs.Prelude.{◌≡◌, [], IfOk};
+ghost use Rattle.std.specs.Prelude.{IfOk};
 
 use ann_pool::Pool;
 use ann_prune::Candidates;
@@ -19,11 +19,11 @@ pub struct PutScratch {
 }
 
 impl PutScratch {
+    ghost use Rattle.ann_insert.specs.Scratch.{IsEmpty};
+
     /// A scratch for inserts, without anything in it. The only error is want of memory.
     pub fn new(alloc: Global) -> Result<PutScratch, AllocError>
-        ensures pool { IfOk result (λ scratch. scratch.pool.items ≡ []) }
-        ensures rows { IfOk result (λ scratch. (scratch.visited.items ≡ []) × (scratch.candidates.rows ≡ [])) }
-        ensures kept { IfOk result (λ scratch. (scratch.kept.items ≡ []) × (scratch.kept_back.items ≡ [])) }
+        ensures { IfOk result IsEmpty }
     {
         Ok(PutScratch {
             pool: Pool::with_room(alloc)?,

@@ -5,9 +5,9 @@
 ghost use Rattle.std.specs.Prelude.{◌≡◌, true};
 ghost use Rattle.std.specs.List.{list_any};
 ghost use Rattle.ann_types.specs.Index.{Index};
-ghost use Rattle.ann_types.specs.Lists.{BasedList, IsBaseOf, names_of};
+ghost use Rattle.ann_types.specs.Lists.{BasedList, IsBaseOf};
 ghost use Rattle.ann_types.specs.Legal.{IsLegal, is_legal};
-ghost use Rattle.ann_laws.specs.Outlines.{outline_start, legal_by};
+ghost use Rattle.ann_laws.specs.Outlines.{legal_from_base};
 ghost use Rattle.ann_laws.specs.Replays.{is_end, LastMerge, rebased, StandsForList};
 
 /// The replay law: each legal list with an End has another in its place, on the graph of its last merge.
@@ -20,5 +20,5 @@ pub fn replay()
 #[tactic(auto, using(crate::proofs::Outlined::legal_by_is))]
 pub fn judging()
     ensures { (index : Index) (h : BasedList) → IsBaseOf index.params h.base
-        → is_legal index h ≡ legal_by index.params h.base.position outline_start (names_of h.base.graph.points) h.base.next h.entries }
+        → is_legal index h ≡ legal_from_base index.params h }
 {}

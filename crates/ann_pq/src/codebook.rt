@@ -115,7 +115,8 @@ impl Codebook {
         requires part { part < self.now.m }
         requires vector { length vector.now ≡ self.now.d }
         requires out { length out.old ≡ 256 }
-        ensures value { out.new ≡ map (distance (part_of (self.now.d / self.now.m) vector.now part)) (get_or self.now.book part []) }
+        ensures value { out.new ≡ map
+            (distance (part_of (self.now.d / self.now.m) vector.now part)) (get_or self.now.book part []) }
         ensures small { (number : ℕ) → get_or out.new number 0 ≤ 66585600 }
         ensures length { length out.new ≡ 256 }
     {

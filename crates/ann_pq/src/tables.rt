@@ -75,7 +75,8 @@ impl Tables {
     pub fn distance(&self, code: &[u8]) -> u32
         requires { length code.now ≡ length self.now }
         // Whichever query and codebook the tables are of, it is the distance of that query to the decoded code.
-        ensures guided { (book : Book) (query : List ℕ) → AreTablesOf book query self.now → result ≡ distance query (decode book code.now) }
+        ensures guided { (book : Book) (query : List ℕ) → AreTablesOf book query self.now
+            → result ≡ distance query (decode book code.now) }
         ensures sum { result ≡ looked_up self.now code.now }
     {
         let mut sum = 0;

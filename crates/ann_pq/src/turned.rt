@@ -77,7 +77,8 @@ pub(crate) fn distances(part: &[u8], turned: &[u8], out: &mut [u32])
     requires turned { length turned.now ≡ 256 * length part.now }
     requires out { length out.old ≡ 256 }
     ensures length { length out.new ≡ 256 }
-    ensures value { (number : ℕ) → number < 256 → get_or out.new number 0 ≡ distance part.now (column turned.now number (length part.now)) }
+    ensures value { (number : ℕ) → number < 256
+        → get_or out.new number 0 ≡ distance part.now (column turned.now number (length part.now)) }
     ensures small { (number : ℕ) → get_or out.new number 0 ≤ 66585600 }
 {
     for block in 0..16 {

@@ -113,7 +113,8 @@ impl Fields {
     /// The parameters, where the fields are those of a log: the parameters are within their limits, the zero field is 0
     /// and the base is valid.
     pub(crate) fn params(&self) -> Option<Params>
-        ensures { MatchOption result (are_sound self.now ≡ false) (λ p. (are_sound self.now ≡ true) × (fields_of p self.now.base self.now.generation ≡ self.now)) }
+        ensures { MatchOption result (are_sound self.now ≡ false)
+            (λ p. (are_sound self.now ≡ true) × (fields_of p self.now.base self.now.generation ≡ self.now)) }
     {
         if self.zero != 0 || !self.base.is_valid() {
             return None;

@@ -29,9 +29,11 @@ impl Preamble {
         // Its parts go together, and the bytes have its first gate.
         ensures sound { IfOk result (λ found. IfSome found (λ p. IsSoundIn bytes.now (said_by p))) }
         // What is read of version 2 is in the grammar of what is written.
-        ensures grammar { IfOk result (λ found. IfSome found (λ p. 1 ≤ p.generation → IsWrittenIn bytes.now p)) }
+        ensures grammar { IfOk result (λ found.
+            IfSome found (λ p. 1 ≤ p.generation → IsWrittenIn bytes.now p)) }
         // Bytes that agree up to the first gate say the same, whatever stands there and behind it.
-        ensures before_the_gate { IfOk result (λ found. IfSome found (λ p. IsSaidBefore bytes.now (said_by p))) }
+        ensures before_the_gate { IfOk result (λ found.
+            IfSome found (λ p. IsSaidBefore bytes.now (said_by p))) }
         // Where the file is cut it has the same preamble, or none.
         ensures fronts { HasFronts bytes.now }
     {
@@ -76,7 +78,8 @@ fn with_book(
     generation: u64,
 ) -> Result<Option<Preamble>, AllocError>
     requires { are_sound (fields_of params base generation) ≡ true }
-    ensures { IfOk result (λ found. said_by_found found ≡ with_fields bytes.now (Some (fields_of params base generation))) }
+    ensures { IfOk result (λ found.
+        said_by_found found ≡ with_fields bytes.now (Some (fields_of params base generation))) }
 {
     let at = book_at(generation);
     let end = at + 12 + 256 * usize::from(params.d);

@@ -27,7 +27,8 @@ pub fn write(params: &Params, book: &[u8], base: &Base, generation: u64, out: &m
     requires base { is_base base.now ≡ true }
     requires generation { 1 ≤ generation }
     requires room { 74 + 256 * params.now.d ≤ length out.old }
-    ensures written { out.new ≡ preamble_bytes 0 params.now generation base.now book.now 0 ++ drop (74 + 256 * params.now.d) out.old }
+    ensures written { out.new ≡
+        preamble_bytes 0 params.now generation base.now book.now 0 ++ drop (74 + 256 * params.now.d) out.old }
     // As it was written the file has no preamble.
     ensures closed { preamble_of out.new ≡ None }
     // With an open made byte it is read again, whatever follows.

@@ -9,13 +9,14 @@ use Rattle.std.proofs.lemmas.List.Elements.{filter-append, All-cons, All-head, A
 use Rattle.std.proofs.Math.Seq.{take-suc-set, take-suc}
 use Rattle.std.proofs.lemmas.List.{drop_more, length_push}
 use Rattle.std.proofs.lemmas.List.Sorted.{IsNonDecreasingBy-drop, IsPermutation-map, list_any-IsPermutation}
-use Rattle.std.proofs.lemmas.Bool.{false≢true, or_cases, or_right, or_left, eqb-false, cond-false, leb-false, false_from_ne_true, cases_eq, ne_eqb}
+use Rattle.std.proofs.lemmas.Bool.{false≢true, or_cases, or_right, or_left, eqb-false, cond-false, leb-false, false_from_ne_true}
 use Rattle.ann_types.specs.Order.{before, in_order, has, ascending}
 use Rattle.ann_types.specs.Kept.{Rule, covered, takes, keep}
 use Rattle.ann_types.proofs.Ordered.{IsAfter, IsRising, before_from, has_here, has_later, has_cases, rising_in_order, has_in_order, before-trans, before-irreflexive, has_append, not_in_rest, rising_unique}
 use Rattle.ann_prune.specs.declared.candidates.Candidate.{Candidate}
 use Rattle.ann_prune.specs.Rows.{row_of, key_of, IsMeasured}
 use Rattle.ann_prune.specs.Newer.{AreSettled, IsNew, leaves_out, fresh_of, with_tried}
+use Rattle.ann_types.proofs.Booleans.{or_twice, eqb_sym}
 
 -- a candidate with the same row changes no row
 pub rows-set : (s : List Candidate) (i : ℕ) (d a : Candidate) → i < length s → a.row ≡ (get_or s i d).row → map row_of (set s i a) ≡ map row_of s
@@ -41,16 +42,12 @@ AreSorted far [] = Unit {0}
 AreSorted far (x ∷ []) = Unit {0}
 AreSorted far (x ∷ y ∷ ys) = ((before far x y ≡ true) ⊎ (x ≡ y)) × AreSorted far (y ∷ ys)
 
-or_twice : (a b : Bool) → (a || b) ≡ (a || (a || b))
-or_twice true b = refl
-or_twice false b = refl
-
 has_once : (z : ℕ) (xs : List ℕ) → has (once xs) z ≡ has xs z
 has_once z [] = refl
 has_once z (x ∷ []) = refl
 has_once z (x ∷ y ∷ ys) =
     elim (eqb x y) as (λ t. eqb x y ≡ t → has (cond t (once (y ∷ ys)) (x ∷ once (y ∷ ys))) z ≡ (eqb z x || has (y ∷ ys) z)) [
-      | true ↦ λ e. has_once z (y ∷ ys) ∙ or_twice (eqb z y) (has ys z) ∙ ap (λ n. eqb z n || has (y ∷ ys) z) (sym (eqb-true x y e))
+      | true ↦ λ e. has_once z (y ∷ ys) ∙ sym (or_twice (eqb z y) (has ys z)) ∙ ap (λ n. eqb z n || has (y ∷ ys) z) (sym (eqb-true x y e))
       | false ↦ λ e. ap (λ t. eqb z x || t) (has_once z (y ∷ ys))
     ] refl
 
@@ -302,9 +299,6 @@ settled_none rule apart p xs = record { settled = λ k c h h' older. absurd (ome
 
 -- ---- Rows in ascending order
 
-eqb_flip : (x y : ℕ) → eqb x y ≡ eqb y x
-eqb_flip x y = elim (cases_eq x y) [ inl e ↦ eq-eqb x y e ∙ sym (eq-eqb y x (sym e)) | inr n ↦ ne_eqb x y n ∙ sym (ne_eqb y x (λ e. n (sym e))) ]
-
 once_distinct : (xs : List ℕ) → IsDistinct eqb xs → once xs ≡ xs
 unfolding IsDistinct
 once_distinct [] d = refl
@@ -326,7 +320,7 @@ numbers_sorted (x ∷ y ∷ ys) s =
 -- sorted rows that differ are their set
 pub ascending_sorted : (xs ys : List ℕ) → IsPermutation xs ys → IsDistinct eqb xs → ((i j d : ℕ) → i ≤ j → j < length ys → get_or ys i d ≤ get_or ys j d) → ys ≡ ascending xs
 ascending_sorted xs ys moved d s =
-    sym (once_distinct ys (IsDistinct-IsPermutation eqb eqb_flip xs ys moved d))
+    sym (once_distinct ys (IsDistinct-IsPermutation eqb eqb_sym xs ys moved d))
     ∙ once_in_order (λ _. 0) ys xs (numbers_sorted ys s) (λ z. sym (list_any-IsPermutation (eqb z) xs ys moved))
 
 keep_distinct_from : (rule : Rule) (apart : ℕ → ℕ → ℕ) (p : ℕ) (far : ℕ → ℕ) (kept cs : List ℕ) → IsDistinct eqb kept → IsRising far cs → ((z : ℕ) → has kept z ≡ true → has cs z ≡ true → ⊥) → IsDistinct eqb (keep rule apart p kept cs)

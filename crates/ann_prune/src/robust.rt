@@ -1,10 +1,11 @@
-ghost use Rattle.std.specs.Prelude.{◌≡◌, ◌≤◌, ◌<◌, ◌+◌, ◌++◌, ◌∷◌, ◌^◌, ℕ, [], true, false, length, map, All, eqb};
+ghost use Rattle.std.specs.Prelude.{◌≡◌, ◌<◌, ◌++◌, ◌∷◌, ◌^◌, [], length, map, All, eqb};
 ghost use Rattle.std.specs.List.{IsDistinct};
 ghost use Rattle.ann_types.specs.Order.{in_order, ascending};
-ghost use Rattle.ann_types.specs.Kept.{rule_of, covered, keep, kept};
+ghost use Rattle.ann_types.specs.Kept.{rule_of, covered, keep};
 ghost use Rattle.std.specs.List.Sorted.{IsPermutation, IsNonDecreasingBy};
 ghost use Rattle.ann_prune.specs.Rows.{row_of, key_of, IsMeasured, IsCandidate, AreCandidates};
-ghost use Rattle.ann_prune.specs.Newer.{AreSettled, AreKept, IsNew, IsNext, IsRepeated, fresh_of, with_tried};
+ghost use Rattle.ann_prune.specs.Gathered.{AreRows, IsPruned};
+ghost use Rattle.ann_prune.specs.Newer.{AreSettled, AreKept, IsNew, IsNext, TellsRepeated, fresh_of, with_tried};
 
 use crate::candidates::{Candidate, Candidates};
 use crate::metric::Metric;
@@ -122,8 +123,7 @@ fn try_keep<M: Metric>(
 /// Whether the candidate before has the same row.
 fn is_repeated(items: &[Candidate], at: usize) -> bool
     requires { at < length items.now }
-    ensures again { result ≡ true → IsRepeated (map row_of items.now) at }
-    ensures first { result ≡ false → (IsRepeated (map row_of items.now) at → ⊥) }
+    ensures { TellsRepeated (map row_of items.now) at result }
 {
     at > 0 && items[at - 1].row == items[at].row
 }
@@ -166,8 +166,7 @@ fn keep_in_order<M: Metric>(
     newer: u32,
     out: &mut ArrayVec<u32, 128>,
 )
-    requires p { p < M.size metric.now }
-    requires rows { All (λ row. row < M.size metric.now) (map row_of items.old) }
+    requires rows { AreRows (M.size metric.now) p (map row_of items.old) }
     requires settled { AreSettled (rule_of params.now) (M.apart metric.now) p newer (map row_of items.old) }
     requires empty { out.old.items ≡ [] }
     ensures { let apart = M.apart metric.now in
@@ -198,11 +197,9 @@ pub fn prune<M: Metric>(
     params: &Params,
     out: &mut ArrayVec<u32, 128>,
 )
-    requires p { p < M.size metric.now }
-    requires rows { All (λ row. row < M.size metric.now) candidates.old.rows }
-    ensures kept { out.new.items ≡ kept (rule_of params.now) (M.apart metric.now) p candidates.old.rows }
-    ensures emptied { candidates.new.rows ≡ [] }
-    ensures room { candidates.old.room + length candidates.old.rows ≤ candidates.new.room }
+    requires rows { AreRows (M.size metric.now) p candidates.old.rows }
+    ensures { let apart = M.apart metric.now in
+        IsPruned (rule_of params.now) apart p candidates.old candidates.new out.new.items }
 {
     prune_newer(metric, p, candidates, 0, params, out);
 }
@@ -219,12 +216,10 @@ pub fn prune_newer<M: Metric>(
     params: &Params,
     out: &mut ArrayVec<u32, 128>,
 )
-    requires p { p < M.size metric.now }
-    requires rows { All (λ row. row < M.size metric.now) candidates.old.rows }
+    requires rows { AreRows (M.size metric.now) p candidates.old.rows }
     requires settled { AreSettled (rule_of params.now) (M.apart metric.now) p newer candidates.old.rows }
-    ensures kept { out.new.items ≡ kept (rule_of params.now) (M.apart metric.now) p candidates.old.rows }
-    ensures emptied { candidates.new.rows ≡ [] }
-    ensures room { candidates.old.room + length candidates.old.rows ≤ candidates.new.room }
+    ensures { let apart = M.apart metric.now in
+        IsPruned (rule_of params.now) apart p candidates.old candidates.new out.new.items }
 {
     out.clear();
     keep_in_order(metric, params, p, &mut candidates.items, newer, out);

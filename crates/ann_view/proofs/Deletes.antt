@@ -1,7 +1,6 @@
 -- The set of deleted points: with one more, and without those that a merge takes out.
-use Rattle.std.proofs.Common.{◌≡◌, ℕ, ◌<◌, true, false, cond, eqb, ltb, not, List, [], ◌∷◌, ◌++◌, ◌||◌, refl, sym, ap, ◌∙◌, eq-eqb}
+use Rattle.std.proofs.Common.{◌≡◌, ℕ, ◌<◌, cond, eqb, ltb, List, [], ◌∷◌, ◌++◌, refl, sym, ap, ◌∙◌}
 use Rattle.std.specs.List.{AllByRecursion}
-use Rattle.std.proofs.lemmas.Bool.{eqb-true, ne_eqb, false≢true}
 use Rattle.ann_types.specs.Order.{has, placed, ascending}
 use Rattle.ann_types.specs.Merge.{without}
 use Rattle.ann_types.proofs.Ordered.{all_placed-append}
@@ -26,20 +25,10 @@ dead_added dead pid a =
     ∙ ap (placed (λ _. 0) pid) (sym (ascending_rises dead (rises_from_ascending dead a)))
     ∙ sym (all_placed-append (λ _. 0) [] dead (pid ∷ []))
 
--- ---- the two words for a member
-
-eqb_sym : (x y : ℕ) → eqb x y ≡ eqb y x
-eqb_sym x y = elim (eqb x y) as (λ t. eqb x y ≡ t → t ≡ eqb y x) [
-  | true ↦ λ e. sym (eq-eqb y x (sym (eqb-true x y e)))
-  | false ↦ λ e. sym (ne_eqb y x (λ s. false≢true (sym e ∙ eq-eqb x y (sym s))))
-] refl
+-- ---- the word for a member, which ann_dead has from ann_types
 
 pub has_same : (xs : List ℕ) (p : ℕ) → dead_has xs p ≡ has xs p
-has_same [] p = refl
-has_same (x ∷ xs) p = ap (λ t. t || dead_has xs p) (eqb_sym x p) ∙ ap (λ t. eqb p x || t) (has_same xs p)
+has_same xs p = refl
 
-pub without_same : (gone set : List ℕ) → dead_without set gone ≡ without gone set
-without_same gone [] = refl
-without_same gone (x ∷ set) =
-    ap (λ t. cond (not t) (x ∷ dead_without set gone) (dead_without set gone)) (has_same gone x)
-    ∙ ap (λ t. cond (not (has gone x)) (x ∷ t) t) (without_same gone set)
+pub without_same : (gone set : List ℕ) → dead_without gone set ≡ without gone set
+without_same gone set = refl

@@ -10,3 +10,5 @@ pub mod Joined
 pub mod Memories
 pub mod Whole
 pub mod Ending
+pub mod Collecting
+pub mod Collects

@@ -6,3 +6,4 @@ pub mod Stands
 pub mod Holding
 pub mod Near
 pub mod Search
+pub mod Collected

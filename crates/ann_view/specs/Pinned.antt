@@ -5,19 +5,19 @@ use Rattle.std.specs.Option.{option_map}
 use Rattle.std.specs.declared.sync.Arc.{Arc}
 use Rattle.std.specs.declared.alloc.Global.{Global}
 use Rattle.ann_types.specs.declared.params.Params.{Params}
-use Rattle.ann_pq.specs.Codebook.{Shown as BookShown}
+use Rattle.ann_pq.specs.Codebook.{CodebookView}
 use Rattle.ann_segment.specs.Segment.{SegmentView}
-use Rattle.ann_view.specs.View.{Shown}
+use Rattle.ann_view.specs.View.{IndexView}
 
 -- what a search of the long-term graph needs of a view
 pub record PinnedView (S : Type 0) : Type 0 where
   pub params : Params
-  pub book : BookShown
+  pub book : CodebookView
   pub at : ℕ
   pub dead : List ℕ
   pub segment : Option (SegmentView S)
 
-abbrev pub pinned : {S : Type 0} → Shown S → PinnedView S
+abbrev pub pinned : {S : Type 0} → IndexView S → PinnedView S
 pinned view = record { params = view.params; book = view.book; at = view.at; dead = view.memory.dead; segment = view.segment }
 
 -- what it holds has the index's sizes
@@ -26,5 +26,5 @@ pub record ArePinned {S : Type 0} (pin : PinnedView S) : Type 0 where
   pub codes : MatchOption pin.segment (Unit {0}) (λ segment. segment.m ≡ pin.params.m)
 
 -- how it is kept
-abbrev pub kept : {S : Type 0} → Params → Arc BookShown Global → ℕ → List ℕ → Option (Arc (SegmentView S) Global) → PinnedView S
+abbrev pub kept : {S : Type 0} → Params → Arc CodebookView Global → ℕ → List ℕ → Option (Arc (SegmentView S) Global) → PinnedView S
 kept params book at dead segment = record { params = params; book = book.value; at = at; dead = dead; segment = option_map arc_value segment }

@@ -7,16 +7,21 @@
 #![tactic(auto)]
 
 mod apply;
+mod collect;
+mod collect_refused;
 mod frozen_list;
 mod near;
 mod op;
 mod open_merge;
 mod pinned;
+mod points;
 mod search;
 mod temp;
 mod view;
 
+pub use collect_refused::CollectRefused;
 pub use op::Op;
 pub use pinned::Pinned;
+pub use points::PointList;
 pub use search::Found;
 pub use view::View;

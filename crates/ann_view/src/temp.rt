@@ -1,18 +1,21 @@
-ghost use Rattle.std.specs.Prelude.{◌≡◌, ◌<◌, ◌∷◌, ◌&&◌, [], length, All, IsSome, IfOk, OnOk, OnErr, is_none, map, take, MatchOption, ◌+◌, if◌then◌else◌};
+ghost use Rattle.std.specs.Prelude.{◌≡◌, ◌<◌, ◌∷◌, ◌++◌, ◌&&◌, [], length, All, IsSome, IfOk, OnOk, OnErr, is_none, map, take, MatchOption, ◌+◌, if◌then◌else◌};
 ghost use Rattle.std.specs.Arc.{arc_value};
 ghost use Rattle.std.specs.List.Sorted.{IsStrictlyIncreasing};
 ghost use Rattle.ann_types.specs.Graph.{Point, empty_graph, is_empty, pids_of};
 ghost use Rattle.ann_types.specs.Fold.{inserted, deleted, frozen, begun_at, switched, start, all_points};
 ghost use Rattle.ann_types.specs.Legal.{has_work};
 ghost use Rattle.ann_table.specs.Node.{Node, graph_of};
-ghost use Rattle.ann_frozen.specs.Frozen.{Shown as FrozenShown};
+ghost use Rattle.ann_frozen.specs.Frozen.{FrozenView};
 ghost use Rattle.ann_beam.specs.Desk.{result_of};
 ghost use Rattle.ann_view.specs.Temp.{IsTemp, IsFrozenWith, with_state};
 ghost use Rattle.ann_view.specs.Search.{near_result};
+ghost use Rattle.ann_view.specs.Collected.{Begins, alive_in};
 
+use crate::collect::{add_frozen, add_graph};
 use crate::frozen_list::FrozenList;
 use crate::near::{add_near, add_near_frozen};
 use crate::open_merge::OpenMerge;
+use crate::points::PointList;
 use ann_beam::Desk;
 use ann_dead::{Dead, DeadPin};
 use ann_frozen::Frozen;
@@ -244,10 +247,10 @@ impl TempIndex {
     pub(crate) fn frozen_of_begin(&self) -> Result<Vec<Arc<Frozen>>, AllocError>
         requires { IsSome self.now.state.begun }
         ensures graphs { IfOk result (λ graphs. MatchOption self.now.state.begun ⊥
-            (λ b. map (λ (f : FrozenShown). graph_of f.nodes) (map arc_value graphs.items)
+            (λ b. map (λ (f : FrozenView). graph_of f.nodes) (map arc_value graphs.items)
             ≡ take b.frozen self.now.state.ros)) }
         ensures params { IfOk result (λ graphs.
-            All (λ (f : FrozenShown). f.params ≡ self.now.params) (map arc_value graphs.items)) }
+            All (λ (f : FrozenView). f.params ≡ self.now.params) (map arc_value graphs.items)) }
     {
         match &self.begun {
             Some(begun) => self.ros.first(begun.frozen()),
@@ -301,6 +304,23 @@ impl TempIndex {
     {
         add_near(&self.rw, &self.dead, desk, ask);
         add_near_frozen(self.ros.graphs(), &self.dead, desk, ask);
+    }
+
+    /// Adds the live points of the graphs in memory, in order of Pid. The only error is want of memory; the first of them
+    /// are there then.
+    pub(crate) fn collect(&self, out: &mut PointList) -> Result<(), AllocError>
+        ensures added { OnOk result (out.new ≡ out.old ++ alive_in self.now.state.dead (all_points self.now.state)) }
+        ensures begun { OnErr result
+            (Begins out.new (out.old ++ alive_in self.now.state.dead (all_points self.now.state))) }
+    {
+        add_frozen(self.alloc, self.ros.graphs(), &self.dead, out)?;
+        add_graph(self.alloc, &self.rw, &self.dead, out)?;
+        Ok(())
+    }
+
+    /// Where memory comes from.
+    pub(crate) fn alloc(&self) -> Global {
+        self.alloc
     }
 
     /// The deleted points.

@@ -35,10 +35,10 @@ module _ (c : After-deref-2) where
   row_is = c.count-row.ensures ∙ ap length c.prepare.ensures.nodes
 
   seen_is : c.deref.result.now ≡ near
-  seen_is = c.deref.ensures.value ∙ c.in_ok-prepare.ensures.visited
+  seen_is = c.deref.ensures.value ∙ c.in_ok-prepare.ensures.ready.visited
 
   near_below : Below (length nodes) near
-  near_below = subst (AllByRecursion (λ row. row < length nodes)) c.in_ok-prepare.ensures.visited (recursion_from_All (λ row. row < length nodes) c.prepare.new.scratch.visited.items c.in_ok-prepare.ensures.rows)
+  near_below = subst (AllByRecursion (λ row. row < length nodes)) c.in_ok-prepare.ensures.ready.visited (recursion_from_All (λ row. row < length nodes) c.prepare.new.scratch.visited.items c.in_ok-prepare.ensures.ready.rows)
 
   rows_are : c.add.new.self.nodes ≡ nodes ++ node ∷ []
   rows_are = c.add.ensures.nodes ∙ ap (λ ns. ns ++ node ∷ []) c.prepare.ensures.nodes

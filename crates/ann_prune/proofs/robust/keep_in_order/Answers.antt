@@ -9,7 +9,7 @@ use Rattle.ann_prune.proofs.Prunes.{sorted_rows, rows_inside, same_rows, settled
 use Rattle.ann_prune.proofs.robust.keep_in_order.Goals as goal
 
 pub measure-requires-clause-rows : goal.measure-requires-clause-rows
-measure-requires-clause-rows g c = rows_inside (g.M.Metric.size c.args.metric.now) c.args.items.now c.requires.rows
+measure-requires-clause-rows g c = rows_inside (g.M.Metric.size c.args.metric.now) c.args.items.now c.requires.rows.others
 
 pub keep_each-requires-clause-candidates : goal.keep_each-requires-clause-candidates
 keep_each-requires-clause-candidates g c =
@@ -17,7 +17,7 @@ keep_each-requires-clause-candidates g c =
     record {
       rows =
           All-permutation (λ (x : Candidate). x.row < size) c.measure.new.items c.sort.new.items c.sort.ensures.same
-          (rows_inside size c.measure.new.items (subst (All (λ row. row < size)) (sym c.measure.ensures.rows) c.requires.rows));
+          (rows_inside size c.measure.new.items (subst (All (λ row. row < size)) (sym c.measure.ensures.rows) c.requires.rows.others));
       measured = All-permutation (IsMeasured (g.M.Metric.apart c.args.metric.now c.args.p)) c.measure.new.items c.sort.new.items c.sort.ensures.same c.measure.ensures.far;
     }
 
@@ -31,7 +31,7 @@ returns g c =
     let apart : ℕ → ℕ → ℕ = g.M.Metric.apart c.args.metric.now in
     let size : ℕ = g.M.Metric.size c.args.metric.now in
     let rows = All-permutation (λ (x : Candidate). x.row < size) c.measure.new.items c.sort.new.items c.sort.ensures.same
-    (rows_inside size c.measure.new.items (subst (All (λ row. row < size)) (sym c.measure.ensures.rows) c.requires.rows)) in
+    (rows_inside size c.measure.new.items (subst (All (λ row. row < size)) (sym c.measure.ensures.rows) c.requires.rows.others)) in
     let far = All-permutation (IsMeasured (apart c.args.p)) c.measure.new.items c.sort.new.items c.sort.ensures.same c.measure.ensures.far in
     let few = c.count-small.type_inv in
     let is = c.count-small.ensures in

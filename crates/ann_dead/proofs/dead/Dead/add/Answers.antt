@@ -1,5 +1,6 @@
 use Rattle.std.proofs.Common.{◌≡◌, ◌∙◌, ◌+◌, ◌++◌, ◌∷◌, [], ℕ, List, false, length, take, sym, ap, subst, arith, length-append}
-use Rattle.ann_dead.specs.Pids.{has, with_pid, union_of, IsAscending}
+use Rattle.ann_types.specs.Order.{has}
+use Rattle.ann_dead.specs.Pids.{with_pid, union_of, IsAscending}
 use Rattle.ann_dead.specs.Dead.{total, AreDigits}
 use Rattle.ann_dead.proofs.Sets.{with_present, ascending_union_of}
 use Rattle.ann_dead.proofs.Runs.{one_more, union_of_one_more, grown, runs_append, runs_take}

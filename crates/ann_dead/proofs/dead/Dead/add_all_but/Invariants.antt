@@ -1,6 +1,7 @@
 use Rattle.std.proofs.Common.{ℕ, ◌≡◌, take, not}
 use Rattle.std.specs.Prelude.{◌||◌, ◌&&◌}
-use Rattle.ann_dead.specs.Pids.{has, IsAscending}
+use Rattle.ann_types.specs.Order.{has}
+use Rattle.ann_dead.specs.Pids.{IsAscending}
 use Rattle.ann_dead.proofs.dead.Dead.add_all_but.Given as goal
 
 abbrev pub invariant-loop-pid : goal.invariant-loop-pid

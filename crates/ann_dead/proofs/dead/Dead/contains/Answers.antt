@@ -1,6 +1,7 @@
 use Rattle.std.proofs.Common.{◌≡◌, ◌∙◌, ap, sym, true}
 use Rattle.std.specs.Prelude.{◌||◌}
-use Rattle.ann_dead.specs.Pids.{has, union_of}
+use Rattle.ann_types.specs.Order.{has}
+use Rattle.ann_dead.specs.Pids.{union_of}
 use Rattle.ann_dead.proofs.Removals.{has_run_at, has_runs_more}
 use Rattle.ann_dead.proofs.dead.Dead.contains.Goals as goal
 

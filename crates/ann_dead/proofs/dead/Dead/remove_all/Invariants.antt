@@ -1,6 +1,7 @@
 use Rattle.std.proofs.Common.{ℕ, ◌≡◌, take, not}
 use Rattle.std.specs.Prelude.{◌&&◌}
-use Rattle.ann_dead.specs.Pids.{has, union_of, IsAscending}
+use Rattle.ann_types.specs.Order.{has}
+use Rattle.ann_dead.specs.Pids.{union_of, IsAscending}
 use Rattle.ann_dead.proofs.dead.Dead.remove_all.Given as goal
 
 abbrev pub invariant-loop-run : goal.invariant-loop-run

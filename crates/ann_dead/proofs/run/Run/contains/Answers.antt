@@ -1,5 +1,6 @@
 use Rattle.std.proofs.Common.{ap, ◌∙◌, sym, subst}
-use Rattle.ann_dead.specs.Pids.{has, IsAscending}
+use Rattle.ann_types.specs.Order.{has}
+use Rattle.ann_dead.specs.Pids.{IsAscending}
 use Rattle.ann_dead.proofs.Searches.{found}
 use Rattle.ann_dead.proofs.run.Run.contains.Goals as goal
 

@@ -3,7 +3,7 @@ use Rattle.std.specs.FinMap.{remove}
 use Rattle.ann_types.specs.Lists.{live_of}
 use Rattle.ann_types.specs.declared.change.Change.TheVariants.{Delete}
 use Rattle.ann_types.specs.declared.entry.Entry.TheVariants.{Delete as DeleteEntry}
-use Rattle.ann_tags.specs.Tags.{Pids, Shown}
+use Rattle.ann_tags.specs.Tags.{Pids, TagsView}
 use Rattle.ann_tags.proofs.Maps.{unmapped_is}
 use Rattle.ann_once.proofs.Sessions.{delete_there, pid_is, keeps_more}
 use Rattle.ann_once.proofs.session.Session.delete.Goals as goal
@@ -19,4 +19,4 @@ returns-clause-kept c h keeps none =
     (ap (λ v. v.book) c.in_ok-apply.ensures.applied)
     (ap (λ v. v.segment) c.in_ok-apply.ensures.applied)
     (ap (λ v. v.closed) c.in_ok-apply.ensures.applied)
-    (ap (λ (t : Shown). t.pids) c.remove.ensures ∙ ap (λ (m : Pids). remove m c.args.tag) keeps.tags ∙ sym (unmapped_is (live_of h) c.args.tag))
+    (ap (λ (t : TagsView). t.pids) c.remove.ensures ∙ ap (λ (m : Pids). remove m c.args.tag) keeps.tags ∙ sym (unmapped_is (live_of h) c.args.tag))

@@ -3,7 +3,7 @@ use Rattle.std.specs.FinMap.{insert, get}
 use Rattle.ann_types.specs.Lists.{live_of, mapped}
 use Rattle.ann_types.specs.declared.change.Change.TheVariants.{Replace}
 use Rattle.ann_types.specs.declared.entry.Entry.TheVariants.{Replace as ReplaceEntry}
-use Rattle.ann_tags.specs.Tags.{Pids, Shown, map_of}
+use Rattle.ann_tags.specs.Tags.{Pids, TagsView, map_of}
 use Rattle.ann_tags.proofs.Maps.{mapped_is, gone, replaced}
 use Rattle.ann_once.proofs.Sessions.{replace_there, pid_is, keeps_more}
 use Rattle.ann_once.proofs.session.Session.replace.Goals as goal
@@ -13,7 +13,7 @@ unreachable-requires c = replace_there c.requires.accepted.0 c.args.tag c.args.v
 
 pub insert-requires-clause-absent : goal.insert-requires-clause-absent
 insert-requires-clause-absent c =
-    ap (λ (t : Shown). get t.pids c.args.tag) c.remove.ensures ∙ gone c.reserve.new.self.pids c.args.tag
+    ap (λ (t : TagsView). get t.pids c.args.tag) c.remove.ensures ∙ gone c.reserve.new.self.pids c.args.tag
 
 pub returns-clause-kept : goal.returns-clause-kept
 returns-clause-kept c h keeps none =
@@ -25,9 +25,9 @@ returns-clause-kept c h keeps none =
     (ap (λ v. v.closed) c.in_ok-apply.ensures.applied)
     (
     c.insert.ensures.pids
-    ∙ ap (λ (t : Shown). insert t.pids c.args.tag c.next-pid.result) c.remove.ensures
+    ∙ ap (λ (t : TagsView). insert t.pids c.args.tag c.next-pid.result) c.remove.ensures
     ∙ replaced c.reserve.new.self.pids c.args.tag c.next-pid.result
-    ∙ ap (λ (t : Shown). insert t.pids c.args.tag c.next-pid.result) c.in_ok-reserve.ensures.ok
+    ∙ ap (λ (t : TagsView). insert t.pids c.args.tag c.next-pid.result) c.in_ok-reserve.ensures.ok
     ∙ ap (λ (m : Pids). insert m c.args.tag c.next-pid.result) keeps.tags
     ∙ sym (mapped_is (live_of h) c.args.tag c.next-pid.result)
     ∙ ap (λ (n : ℕ). map_of (mapped (live_of h) c.args.tag n)) (c.next-pid.ensures ∙ keeps.stands.next))
