@@ -32,7 +32,7 @@ fn empty_place(alloc: Global) -> Result<Memory, AllocError>
     let vault = MemoryVault::new(alloc, &[])?;
     let clients = eyes(alloc, 32)?;
     let workers = eyes(alloc, 16)?;
-    Place::new(alloc, (first, second), vault, clients, workers)
+    Place::new(alloc, first, second, vault, clients, workers)
 }
 
 fn words_of(alloc: Global, line: &str) -> Result<Vec<String>, AllocError> {
@@ -49,11 +49,13 @@ fn runs_so(
     alloc: Global,
     words: &[String],
     script: &str,
-    (read, write): (u64, u64),
-    (status, text): (u8, &str),
+    failing: (u64, u64),
+    wanted: (u8, &str),
 ) -> Result<bool, AllocError>
     requires { AreAlone (map string_bytes words.now) }
 {
+    let (read, write) = failing;
+    let (status, text) = wanted;
     let mut input = MemorySource::new(alloc, script.as_bytes(), &[read])?;
     let mut out = MemorySink::new(alloc, 5, &[write])?;
     let mut place = empty_place(alloc)?;

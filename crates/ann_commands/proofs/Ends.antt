@@ -1,10 +1,10 @@
 -- How what is owed follows from what happened.
-use Rattle.std.proofs.Common.{◌≡◌, ℕ, ◌+◌, ◌≤◌, List, ap, subst, sym, inl, inr, refl, arith, length}
+use Rattle.std.proofs.Common.{◌≡◌, ℕ, List, ap, subst, sym, inl, inr, arith}
 use Rattle.std.specs.Prelude.{Option, Err}
 use Rattle.ann_script.specs.Reading.{Reads, ReadsAll, FindsFault, IsCut, BreaksOff, CountsReads}
-use Rattle.ann_script.specs.Script.{Client, limit}
+use Rattle.ann_script.specs.Script.{Client}
 use Rattle.ann_script.specs.declared.script_refused.ScriptRefused.{ScriptRefused}
-use Rattle.ann_script.specs.declared.script_refused.ScriptRefused.TheVariants.{Line, Failed, Memory}
+use Rattle.ann_script.specs.declared.script_refused.ScriptRefused.TheVariants.{Line, Failed}
 use Rattle.ann_script.specs.declared.verbs.Rules.{Rules}
 use Rattle.ann_types.specs.declared.params.Params.{Params}
 use Rattle.ann_commands.specs.Counts.{CountsDue}

@@ -1,12 +1,12 @@
 -- How a command ends, by what was owed and what was paid.
-use Rattle.std.proofs.Common.{◌≡◌, ◌≢◌, ℕ, List, ap, subst, sym, refl, ◌∙◌, ◌⊎◌, inl, inr, arith}
+use Rattle.std.proofs.Common.{◌≡◌, ◌≢◌, ℕ, List, subst, sym, refl, ◌∙◌, ◌⊎◌, inl, inr, arith}
 use Rattle.std.specs.Prelude.{Option}
 use Rattle.std.specs.Io.KnownBytes.{Appends}
 use Rattle.ann_outside.specs.Outputs.{AppendsFront}
 use Rattle.ann_fault.specs.Counts.{next_count}
 use Rattle.ann_commands.specs.Counts.{CountsDue, CountsReads}
 use Rattle.ann_commands.specs.Owed.{IsOwed, IsPaid, owed_status}
-use Rattle.ann_commands.specs.Status.{Ends, status_of, text_of}
+use Rattle.ann_commands.specs.Status.{Ends}
 use Rattle.ann_commands.specs.declared.owed.Owed.{Owed}
 use Rattle.ann_commands.specs.declared.owed.Owed.TheVariants as owed
 

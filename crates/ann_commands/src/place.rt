@@ -39,7 +39,8 @@ impl<F: Drop, V: Drop, E: Drop> Place<F, V, E> {
     /// A place with these two files, this vault and these eyes. The only error is want of memory.
     pub fn new(
         alloc: Global,
-        (log, second): (F, F),
+        log: F,
+        second: F,
         vault: V,
         client_eyes: Vec<E>,
         worker_eyes: Vec<E>,

@@ -48,10 +48,11 @@ fn folder(rt: HostRuntime) -> Result<Folder, AllocError>
     ensures { IfOk result IsWhole }
 {
     let alloc = rt.alloc();
-    let files = (DiskFile::new(rt, "ann.log"), DiskFile::new(rt, "ann2.log"));
+    let log = DiskFile::new(rt, "ann.log");
+    let second = DiskFile::new(rt, "ann2.log");
     let clients = eyes(alloc, 32)?;
     let workers = eyes(alloc, 16)?;
-    Place::new(alloc, files, FolderVault::new(rt), clients, workers)
+    Place::new(alloc, log, second, FolderVault::new(rt), clients, workers)
 }
 
 /// Runs the command of these words. The commands `run` and `truth` aren't there yet: they are answered as words of no
