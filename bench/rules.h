@@ -3,7 +3,7 @@
 //
 // It has the same two means as the index, which leave every list as it is: a table of 4,096 numbers that were met in
 // this walk, and for each list how many members at its front came from one prune. -DSTAMPS keeps a stamp for each point
-// in place of the table. -DPREFETCH asks for a vector's cache lines ahead.
+// in place of the table. -DPREFETCH asks for a vector's cache lines ahead, in walks and in the prunes that link back.
 #pragma once
 #include <algorithm>
 #include <cstdint>
@@ -159,6 +159,12 @@ static void put(Graph &g, const u8 *vector, Scratch &s) {
             continue;
         }
         s.order.clear();
+#ifdef PREFETCH
+        for (u32 k = 0; k < degree; k++) {
+            __builtin_prefetch(g.vector(list[k]));
+            __builtin_prefetch(g.vector(list[k]) + 64);
+        }
+#endif
         for (u32 k = 0; k < degree; k++) s.order.push_back({(u64)between(j, list[k]) << 32 | list[k], list[k]});
         s.order.push_back({(u64)between(j, p) << 32 | p, p});
         u32 left = prune(g.r, aa, bb, g.clean[j] ? (int64_t)list[g.clean[j] - 1] : -1, s, between, next);

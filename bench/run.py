@@ -3,9 +3,11 @@
 
     bench/run.py FOLDER [POINTS ..]
     bench/run.py FOLDER log
+    bench/run.py FOLDER sift [POINTS [TURNS]]
 
 FOLDER takes the scripts, logs and programs that are made (some 250 MB). POINTS are the sizes to insert, 10000 where none is
-given; with `log` only the opening of a log is timed. The proved program `ann_program` is the one that `rt run` left in its
+given; with `log` only the opening of a log is timed. With `sift` the index runs in turns with its twin in C++, hnswlib and faiss over
+SIFT descriptors of photographs (sift/compare.py). The proved program `ann_program` is the one that `rt run` left in its
 crate, and `ann_bench` is made in FOLDER/repository, beside a copy of the crates; where one is not there, `rt run` proves and
 makes it. Both sides are compiled for the same processor, x86-64-v2.
 """
@@ -175,6 +177,9 @@ def main():
     os.makedirs(folder, exist_ok=True)
     if sys.argv[2:] == ["log"]:
         log(folder)
+        return
+    if sys.argv[2:3] == ["sift"]:
+        subprocess.run([os.path.join(HERE, "sift", "compare.py"), folder, *sys.argv[3:]], check=True)
         return
     sizes = [int(n) for n in sys.argv[2:]] or [10000]
     kernels(folder, 2000, 40)
