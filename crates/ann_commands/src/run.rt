@@ -109,7 +109,8 @@ pub fn run_alone<S: Source, K: Sink, F: LogFile, V: Vault, E: Eye<Seal = V::Seal
         result }
     // Each tag that a search of a script tells is live at the list that its reply names.
     ensures live { (params : Params) (script : List Client) → ScriptTellsLive (once_index params) script }
-    ensures told { TellsStill (S.left input.old) (S.left input.new) × TellsStill (K.taken out.old) (K.taken out.new) }
+    ensures told { TellsStill (S.left input.old) (S.left input.new)
+        × TellsStill (K.taken out.old) (K.taken out.new) }
     // A fault is one that was counted in this call, and a count rises for a fault alone.
     ensures reads { CountsReads result (S.faults input.old) (S.faults input.new) }
     ensures writes { CountsWrites result (K.faults out.old) (K.faults out.new) }

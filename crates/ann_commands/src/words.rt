@@ -39,7 +39,8 @@ fn params_of(d: u64, r: u64, l_build: u64, a: u64, b: u64) -> Option<Params>
     requires sizes { (d ≤ 1024) × (r ≤ 128) × (l_build ≤ 1000) }
     requires alpha { (a ≤ 100) × (b ≤ 100) }
     ensures made { IfSome result (IsMade (record { d = d; r = r; l_build = l_build; a = a; b = b })) }
-    ensures outside { IfNone result (is_within (record { d = d; r = r; l_build = l_build; a = a; b = b }) ≡ false) }
+    ensures outside { IfNone result
+        (is_within (record { d = d; r = r; l_build = l_build; a = a; b = b }) ≡ false) }
 {
     Params::new(
         d as u16,
@@ -55,7 +56,9 @@ fn params_of(d: u64, r: u64, l_build: u64, a: u64, b: u64) -> Option<Params>
 
 /// The parameters that the words after `once` give.
 fn given(d: &[u8], r: &[u8], l_build: &[u8], alpha: &[u8]) -> Option<Params>
-    ensures made { IfSome result (λ p. (setting : Setting) × (given_setting d.now r.now l_build.now alpha.now ≡ Some setting) × IsMade setting p) }
+    ensures made { IfSome result (λ p. (setting : Setting)
+        × (given_setting d.now r.now l_build.now alpha.now ≡ Some setting)
+        × IsMade setting p) }
     ensures none { IfNone result (given_setting d.now r.now l_build.now alpha.now ≡ None) }
 {
     match (

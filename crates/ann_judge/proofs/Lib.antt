@@ -1,2 +1,1 @@
-pub mod AnyClient
 pub mod Living

@@ -10,6 +10,7 @@ use Rattle.ann_types.specs.declared.params.Params.{Params}
 use Rattle.ann_types.specs.declared.change.Change.{Change}
 use Rattle.ann_types.specs.declared.change.Change.TheVariants.{Insert, Delete, Replace}
 use Rattle.ann_types.proofs.Folds.{entries_then, entries_none, next_pid_push, live_push}
+use Rattle.ann_types.proofs.Options.{some_none}
 use Rattle.ann_tags.specs.Tags.{Pids, map_of}
 use Rattle.ann_tags.proofs.Maps.{live_is, mapped_is, unmapped_is, found_insert, found_remove}
 use Rattle.ann_judge.specs.declared.refusal.Refusal.{Refusal as CodeRefusal}
@@ -128,9 +129,6 @@ judged_here params h changes i c within is so_far none =
       | None ↦ λ _. refl
       | Some refusal ↦ λ e. absurd (some_none (i, refusal) (sym (judging_stops params h changes i c refusal within is e so_far) ∙ none))
     ] refl
-  where
-    some_none : {A : Type 0} (x : A) → Some x ≡ None → ⊥
-    some_none x e = cc
 
 pub behind_taken : (h : BasedList) (changes : List Change) (i : ℕ) (c : Change) → i < length changes → c ≡ get_or changes i c → behind h (take (i + 1) changes) ≡ with_entry (behind h (take i changes)) (entry_of 0 c)
 behind_taken h changes i c within is = ap (behind h) (taken changes i c within is) ∙ behind_more h (take i changes) c

@@ -45,7 +45,8 @@ fn makes_a_point(change: &Change) -> bool
 impl<'a> Standing<'a> {
     /// Whether a tag is live behind some changes.
     fn is_live(&self, changes: &[Change], tag: Tag) -> bool
-        ensures { (h : BasedList) → KnowsOf h self.now → result ≡ is_live (live_of (behind h changes.now)) tag }
+        ensures { (h : BasedList) → KnowsOf h self.now →
+            result ≡ is_live (live_of (behind h changes.now)) tag }
     {
         let mut live = self.tags.get(tag).is_some();
         for change in changes {

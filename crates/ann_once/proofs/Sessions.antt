@@ -12,6 +12,7 @@ use Rattle.ann_types.specs.Put.{put}
 use Rattle.ann_types.specs.declared.params.Params.{Params}
 use Rattle.ann_types.specs.declared.change.Change.{Change}
 use Rattle.ann_types.specs.declared.change.Change.TheVariants.{Insert, Delete, Replace}
+use Rattle.ann_types.proofs.Booleans.{not_true}
 use Rattle.ann_types.proofs.Sets.{increasing_from_rises}
 use Rattle.ann_types.proofs.Folds.{fold_push, legal_push, live_push}
 use Rattle.ann_types.proofs.Judged.{judged}
@@ -50,10 +51,6 @@ record Accepts (params : Params) (h : BasedList) (vector : List ℕ) (tag : ℕ)
   width : length vector ≡ params.d
   pid : next_pid h < pid_end
   is : is_live (live_of h) tag ≡ live
-
-not_true : (b : Bool) → not b ≡ true → b ≡ false
-not_true true e = absurd cc
-not_true false e = refl
 
 accepts : (params : Params) (h : BasedList) (vector : List ℕ) (tag : ℕ) (t live : Bool) → (t ≡ true → is_live (live_of h) tag ≡ live) → ((eqb (length vector) params.d && ltb (next_pid h) pid_end) && t) ≡ true → Accepts params h vector tag live
 accepts params h vector tag t live tells all =

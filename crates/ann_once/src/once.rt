@@ -42,7 +42,8 @@ fn lines_by(
     requires verbs { All (λ command. IsOrderOf Once (order_of command)) commands.now }
     requires short { length commands.now ≤ limit + 1 }
     ensures { IfOk result (λ transcript.
-        transcript ≡ lines_from (once_index session.old.params) name.now 1 empty_list (map order_of commands.now)) }
+        transcript
+        ≡ lines_from (once_index session.old.params) name.now 1 empty_list (map order_of commands.now)) }
 {
     let mut transcript = Transcript::new(alloc);
     let mut number = 1u32;

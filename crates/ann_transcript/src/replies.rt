@@ -47,7 +47,8 @@ fn write_truth(
     exact: &HitList,
     found: &HitList,
 ) -> Result<(), AllocError>
-    ensures { OnOk result (string_bytes text.new ≡ string_bytes text.old ++ truth_text at exact.now found.now) }
+    ensures { OnOk result (string_bytes text.new
+        ≡ string_bytes text.old ++ truth_text at exact.now found.now) }
 {
     write!(text, "truth at {at}")?;
     write_hits(text, exact)?;

@@ -32,7 +32,8 @@ fn write_lone(text: &mut String, reply: &Reply) -> Result<(), AllocError>
 
 /// Writes the reply to a client's command, of which `command` is the number from 1, and the end of the line.
 fn write_line(text: &mut String, name: &str, command: u32, reply: &Reply) -> Result<(), AllocError>
-    ensures { OnOk result (string_bytes text.new ≡ string_bytes text.old ++ line_text name.now command reply.now) }
+    ensures { OnOk result (string_bytes text.new
+        ≡ string_bytes text.old ++ line_text name.now command reply.now) }
 {
     write!(text, "{name} {command} ")?;
     write_lone(text, reply)
