@@ -15,6 +15,7 @@ use Rattle.ann_pool.specs.Pool.{PoolView, unvisited, marked}
 use Rattle.ann_greedy.specs.Shows.{item, Shows}
 use Rattle.ann_greedy.proofs.Pooled.{has_push, find_item, marked_is, marked_none, some_map, none_map}
 use Rattle.ann_beam.specs.Candidates.{Chooses}
+use Rattle.ann_greedy.proofs.Pooling.{rising_from}
 
 -- the unmarked rows
 abbrev pub left_of : List ℕ → List ℕ → List ℕ
@@ -89,9 +90,6 @@ next_row far visited order x pool w f =
     let nearest : List ℕ = take pool.limit order in
     let got = some_map (item far visited) (find (λ r. not (has visited r)) nearest) x (f ∙ ap (find unvisited) w.items ∙ find_item far visited nearest) in
     got.1 ∙ ap Some (sym (ap (λ (i : Item). i.number) got.2))
-
-rising_from : (far : ℕ → ℕ) (order : List ℕ) → in_order far order ≡ order → IsRising far order
-rising_from far order e = subst (IsRising far) e (rising_in_order far order)
 
 pub choosing_more : (w left left' : ℕ) (rows rows' : List ℕ) (x : Item) (old middle new : PoolView) (far : ℕ → ℕ) (visited order : List ℕ) → Choosing w left rows old middle far visited order → middle.limit ≡ old.limit → left ≡ suc left' → rows' ≡ rows ++ x.number ∷ [] → Some x ≡ find unvisited middle.items → new.limit ≡ middle.limit → new.items ≡ marked middle.items → new.met ≡ middle.met → Choosing w left' rows' old new far visited order
 choosing_more w left left' rows rows' x old middle new far visited order c same l more f limit marks met =

@@ -10,9 +10,9 @@ use Rattle.ann_types.specs.declared.params.Params.{Params}
 use Rattle.ann_table.specs.Node.{Node, nothing, node_at, rows_of, first_row, first_pid, apart_rows, row_pids, row_pid, point_of, graph_of}
 use Rattle.ann_table.specs.Table.{IsNode, AreNodes}
 use Rattle.ann_table.proofs.Graphs.{map_same}
-use Rattle.ann_table.proofs.Settled.{settled_none}
 use Rattle.ann_table.proofs.Sound.{few_nodes}
 use Rattle.ann_frozen.specs.Frozen.{forgotten, frozen_of, edges_of, AreSameRows}
+use Rattle.ann_prune.proofs.Prunes.{settled_none}
 
 pub frozen_count : (nodes : List Node) → length (frozen_of nodes) ≡ length nodes
 frozen_count nodes = length-map nodes forgotten

@@ -89,7 +89,7 @@ alike_entries h g es a = record {
 
 -- ---- an entry that is no End leaves the long-term graph
 
-grown_lti : (params : Params) (s : State) (g : Graph) → (grown params s g).lti ≡ s.lti
+pub grown_lti : (params : Params) (s : State) (g : Graph) → (grown params s g).lti ≡ s.lti
 grown_lti params s g = elim (eqb (length g.points) params.freeze_at) as (λ t. (cond t (frozen s g) (record s { rw = g })).lti ≡ s.lti) [ true ↦ refl | false ↦ refl ]
 
 step_lti : (index : Index) (h : BasedList) (s : State) (e : Entry) → is_end e ≡ false → (step index h s e).lti ≡ s.lti

@@ -20,12 +20,9 @@ use Rattle.ann_view.specs.View.{index_of}
 use Rattle.ann_once.specs.Once.{once_index, search_reply}
 use Rattle.ann_once.specs.Session.{Keeps}
 use Rattle.ann_once.specs.declared.session.Session.{Session}
+use Rattle.ann_view.proofs.Whole.{hits_ranked}
 
 -- ---- a search of the graphs in memory, where there is no other
-
-told : (points : List Point) (query pids : List ℕ) → map hit_of (map (rank (far_from points query) (tag_of points)) pids) ≡ map (hit points query) pids
-told points query [] = refl
-told points query (p ∷ pids) = ap (λ t. hit points query p ∷ t) (told points query pids)
 
 append_none : (xs : List ℕ) → xs ++ [] ≡ xs
 append_none [] = refl
@@ -43,7 +40,7 @@ memory_hits index memory ask none =
     let points : List Point = all_points memory in
     let query : List ℕ = ask.vector in
     let far : ℕ → ℕ = far_from points query in
-    told points query (top far ask.k (without memory.dead (near_memory memory query ask.l)))
+    hits_ranked points query (top far ask.k (without memory.dead (near_memory memory query ask.l)))
     ∙ ap (λ pids. map (hit points query) (top far ask.k (without memory.dead pids))) (near_all memory query ask.l)
     ∙ ap (λ (g : Graph). let all : List Point = g.points ++ flat_map (λ (r : Graph). r.points) memory.ros ++ memory.rw.points in map (hit all query) (top (far_from all query) ask.k (without memory.dead (near_memory memory query ask.l ++ [])))) none
     ∙ sym (hits_are index (record memory { lti = empty_graph }) ask.k ask.l query)

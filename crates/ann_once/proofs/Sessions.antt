@@ -26,11 +26,9 @@ use Rattle.ann_once.specs.Book.{zeros}
 use Rattle.ann_once.specs.Once.{once_index}
 use Rattle.ann_once.specs.Session.{Keeps}
 use Rattle.ann_once.specs.declared.session.Session.{Session}
+use Rattle.ann_laws.proofs.Replayed.{grown_lti}
 
 -- ---- the long-term graph stays empty
-
-grown_lti : (params : Params) (s : State) (graph : Graph) → (grown params s graph).lti ≡ s.lti
-grown_lti params s graph = elim (eqb (length graph.points) params.freeze_at) as (λ t. (cond t (frozen s graph) (record s { rw = graph })).lti ≡ s.lti) [ true ↦ refl | false ↦ refl ]
 
 step_lti : (index : Index) (h : BasedList) (s : State) (c : Change) → (step index h s (entry_of 0 c)).lti ≡ s.lti
 step_lti index h s (Insert tag vector) = grown_lti index.params s (put index.params s.rw (next_pid h) tag vector)

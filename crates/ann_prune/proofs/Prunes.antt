@@ -12,7 +12,7 @@ use Rattle.std.proofs.lemmas.List.Sorted.{IsNonDecreasingBy-drop, IsPermutation-
 use Rattle.std.proofs.lemmas.Bool.{false≢true, or_cases, or_right, or_left, eqb-false, cond-false, leb-false, false_from_ne_true}
 use Rattle.ann_types.specs.Order.{before, in_order, has, ascending}
 use Rattle.ann_types.specs.Kept.{Rule, covered, takes, keep}
-use Rattle.ann_types.proofs.Ordered.{IsAfter, IsRising, before_from, has_here, has_later, has_cases, rising_in_order, has_in_order, before-trans, before-irreflexive, has_append, not_in_rest, rising_unique}
+use Rattle.ann_types.proofs.Ordered.{IsAfter, IsRising, before_from, has_here, has_later, has_cases, rising_in_order, has_in_order, before-trans, before-irreflexive, has_append, not_in_rest, rising_unique, has_from_take}
 use Rattle.ann_prune.specs.declared.candidates.Candidate.{Candidate}
 use Rattle.ann_prune.specs.Rows.{row_of, key_of, IsMeasured}
 use Rattle.ann_prune.specs.Newer.{AreSettled, IsNew, leaves_out, fresh_of, with_tried}
@@ -182,11 +182,6 @@ sorted_at far (x ∷ xs) (suc i) k d s within h =
       | inl e ↦ subst (λ (t : ℕ). (before far t (get_or xs i d) ≡ true) ⊎ (t ≡ get_or xs i d)) (sym (eqb-true k x e)) (sorted_has far x (get_or xs i d) xs s (has_at xs i d (omega arith)))
       | inr m ↦ sorted_at far xs i k d (sorted_rest far x xs s) (omega arith) m
     ]
-
-has_from_take : (i k : ℕ) (xs : List ℕ) → has (take i xs) k ≡ true → has xs k ≡ true
-has_from_take zero k xs h = absurd (false≢true h)
-has_from_take (suc i) k [] h = absurd (false≢true h)
-has_from_take (suc i) k (x ∷ xs) h = elim (has_cases x k (take i xs) h) [ inl e ↦ has_here x k xs e | inr m ↦ has_later x k xs (has_from_take i k xs m) ]
 
 -- the rows so far stand before the next one, where the last of them does
 before_next : (far : ℕ → ℕ) (xs : List ℕ) (i k : ℕ) → AreSorted far xs → i < length xs → ((j : ℕ) → suc j ≡ i → get_or xs j 0 ≡ get_or xs i 0 → ⊥) → has (take i xs) k ≡ true → before far k (get_or xs i 0) ≡ true

@@ -28,10 +28,6 @@ has_append (x ∷ xs) y z h l =
       | false ↦ λ k. has_append xs y z k l
     ] h
 
--- nothing is known of rows below none
-pub settled_none : (rule : Rule) (apart : ℕ → ℕ → ℕ) (p : ℕ) (rows : List ℕ) → AreSettled rule apart p 0 rows
-settled_none rule apart p rows = record { settled = λ k c h i l. absurd (omega arith) }
-
 pub settled_push : (rule : Rule) (apart : ℕ → ℕ → ℕ) (p newer : ℕ) (rows : List ℕ) (y : ℕ) → newer ≤ y → AreSettled rule apart p newer rows → AreSettled rule apart p newer (rows ++ y ∷ [])
 settled_push rule apart p newer rows y l s = record {
   settled = λ k c h i m n b. s.settled k c (has_append rows y k h (omega arith)) (has_append rows y c i (omega arith)) m n b;

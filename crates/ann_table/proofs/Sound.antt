@@ -13,7 +13,8 @@ use Rattle.ann_types.proofs.Sets.{Rises, rises_from_increasing, increasing_from_
 use Rattle.ann_prune.specs.Newer.{AreSettled}
 use Rattle.ann_table.specs.Node.{Node, nothing, node_at, row_pids, apart_rows, linked}
 use Rattle.ann_table.specs.Table.{AreNeighbours, IsNode, AreNodes}
-use Rattle.ann_table.proofs.Settled.{AreSame, settled_none, settled_same}
+use Rattle.ann_table.proofs.Settled.{AreSame, settled_same}
+use Rattle.ann_prune.proofs.Prunes.{settled_none}
 
 pub nodes_none : (params : Params) → AreNodes params []
 nodes_none params = record {

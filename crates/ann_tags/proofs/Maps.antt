@@ -11,6 +11,7 @@ use Rattle.std.proofs.lemmas.Map.Keys.{IsDistinct-head, IsDistinct-tail}
 use Rattle.ann_types.specs.Lists.{Names, is_live, unmapped, mapped, pids_at}
 use Rattle.ann_types.proofs.Tagged.{TagsDiffer, taken_out, pids_at_one}
 use Rattle.ann_tags.specs.Tags.{Pids, map_of}
+use Rattle.ann_types.proofs.Booleans.{eqb_sym}
 
 -- ---- tests of tags
 
@@ -25,11 +26,8 @@ test_is q x =
       | false ↦ λ _. elim (eqb q x) as (λ b. is_eq (cond b Equal Greater) ≡ b) [ true ↦ refl | false ↦ refl ]
     ] refl
 
-flip : (q x : ℕ) → eqb q x ≡ eqb x q
-flip q x = nat_eq_equiv.symm q x
-
 test_flips : (q x : ℕ) → eq_by_cmp nat_cmp q x ≡ eqb x q
-test_flips q x = test_is q x ∙ flip q x
+test_flips q x = test_is q x ∙ eqb_sym q x
 
 -- ---- what a map finds
 
@@ -78,7 +76,7 @@ pub live_is : (live : Names) (tag : ℕ) → is_live live tag ≡ is_some (get (
 live_is live tag = found_is live tag ∙ ap is_some (sym (get-from_entries nat_cmp_total live tag))
 
 other_tag : (first tag q : ℕ) → eqb q first ≡ true → eqb first tag ≡ false → eqb tag q ≡ false
-other_tag first tag q here differ = ap (eqb tag) (eqb-true q first here) ∙ flip tag first ∙ differ
+other_tag first tag q here differ = ap (eqb tag) (eqb-true q first here) ∙ eqb_sym tag first ∙ differ
 
 lookup_unmapped : (live : Names) (tag q : ℕ) → lookup (nat_eq q) (unmapped live tag) ≡ cond (nat_eq tag q) None (lookup (nat_eq q) live)
 lookup_unmapped [] tag q = elim (eqb tag q) as (λ b. ◌≡◌ {A = Option ℕ} None (cond b None None)) [ true ↦ refl | false ↦ refl ]
@@ -88,7 +86,7 @@ lookup_unmapped (e ∷ es) tag q =
     elim (eqb e.0 tag) as (λ t. eqb e.0 tag ≡ t → lookup (nat_eq q) (cond (not t) (e ∷ unmapped es tag) (unmapped es tag)) ≡ cond (eqb tag q) None (cond (eqb q e.0) (Some e.1) old)) [
       | true ↦ λ same. rest ∙ (elim (eqb tag q) as (λ b. eqb tag q ≡ b → cond b None old ≡ cond b None (cond (eqb q e.0) (Some e.1) old)) [
         | true ↦ λ _. refl
-        | false ↦ λ apart. ap (λ b. cond b (Some e.1) old) (sym (ap (eqb q) (eqb-true e.0 tag same) ∙ flip q tag ∙ apart))
+        | false ↦ λ apart. ap (λ b. cond b (Some e.1) old) (sym (ap (eqb q) (eqb-true e.0 tag same) ∙ eqb_sym q tag ∙ apart))
       ] refl)
       | false ↦ λ differ. elim (eqb q e.0) as (λ h. eqb q e.0 ≡ h → cond h (Some e.1) (lookup (nat_eq q) (unmapped es tag)) ≡ cond (eqb tag q) None (cond h (Some e.1) old)) [
         | true ↦ λ here. ap (λ b. cond b None (Some e.1)) (sym (other_tag e.0 tag q here differ))
@@ -97,7 +95,7 @@ lookup_unmapped (e ∷ es) tag q =
     ] refl
 
 lookup_pushed : (es : Names) (tag pid q : ℕ) → is_live es tag ≡ false → lookup (nat_eq q) (es ++ (tag, pid) ∷ []) ≡ cond (nat_eq tag q) (Some pid) (lookup (nat_eq q) es)
-lookup_pushed [] tag pid q none = ap (λ b. cond b (Some pid) None) (flip q tag)
+lookup_pushed [] tag pid q none = ap (λ b. cond b (Some pid) None) (eqb_sym q tag)
 lookup_pushed (e ∷ es) tag pid q none =
     let both = or_parts (eqb e.0 tag) (is_live es tag) none in
     elim (eqb q e.0) as (λ h. eqb q e.0 ≡ h → cond h (Some e.1) (lookup (nat_eq q) (es ++ (tag, pid) ∷ [])) ≡ cond (eqb tag q) (Some pid) (cond h (Some e.1) (lookup (nat_eq q) es))) [
@@ -144,7 +142,7 @@ count_is (e ∷ es) (new, differ) =
 
 absent : (es : Names) (tag : ℕ) → AllByRecursion (λ y. nat_eq tag y ≡ false) (keys_of es) → is_live es tag ≡ false
 absent [] tag all = refl
-absent (e ∷ es) tag (apart, all) = or_from (eqb e.0 tag) (is_live es tag) (flip e.0 tag ∙ apart) (absent es tag all)
+absent (e ∷ es) tag (apart, all) = or_from (eqb e.0 tag) (is_live es tag) (eqb_sym e.0 tag ∙ apart) (absent es tag all)
 
 pub differ_from_distinct : (es : Names) → IsDistinct nat_eq (keys_of es) → TagsDiffer es
 differ_from_distinct [] distinct = tt
@@ -171,7 +169,7 @@ first_of (x ∷ xs) = Some x
 first_pid : (es : Names) (tag : ℕ) → lookup (nat_eq tag) es ≡ first_of (pids_at es tag)
 first_pid [] tag = refl
 first_pid (e ∷ es) tag =
-    ap (λ b. cond b (Some e.1) (lookup (nat_eq tag) es)) (flip tag e.0)
+    ap (λ b. cond b (Some e.1) (lookup (nat_eq tag) es)) (eqb_sym tag e.0)
     ∙ elim (eqb e.0 tag) as (λ b. cond b (Some e.1) (lookup (nat_eq tag) es) ≡ first_of (map (λ (x : ℕ × ℕ). x.1) (cond b (e ∷ filter (λ (x : ℕ × ℕ). eqb x.0 tag) es) (filter (λ (x : ℕ × ℕ). eqb x.0 tag) es)))) [ true ↦ refl | false ↦ first_pid es tag ]
 
 is_first : (x y : ℕ) (o : Option ℕ) → o ≡ Some x → o ≡ Some y → y ≡ x

@@ -159,7 +159,7 @@ frozen_push gs g =
     ∙ flat_map-append (λ (x : Graph). x.points) gs (g ∷ [])
     ∙ ap (λ t. frozen_points gs ++ t) (append-nil g.points)
 
-all_points_frozen : (s : State) (g : Graph) → all_points (frozen s g) ≡ all_points (record s { rw = g })
+pub all_points_frozen : (s : State) (g : Graph) → all_points (frozen s g) ≡ all_points (record s { rw = g })
 all_points_frozen s g =
     append_assoc s.lti.points (frozen_points (s.ros ++ g ∷ [])) []
     ∙ ap (λ t. s.lti.points ++ t) (frozen_push s.ros g)

@@ -18,6 +18,7 @@ use Rattle.ann_segment.specs.Segment.{SegmentView}
 use Rattle.ann_view.specs.View.{IndexView, IsMemory, IsView, item_pids, segment_pids, pids_in}
 use Rattle.ann_view.specs.Steps.{with_entry_more, with_point_more, with_segment, ended, FitsIn, MayEnd}
 use Rattle.ann_view.proofs.Memories.{memory_inserted, memory_deleted, memory_begun, memory_ended}
+use Rattle.ann_types.proofs.Alive.{all_points_frozen}
 
 -- ---- Pids of states
 
@@ -27,12 +28,6 @@ points_in graphs = flat_map (λ (g : Graph). g.points) graphs
 points_append : (xs ys : List Graph) → points_in (xs ++ ys) ≡ points_in xs ++ points_in ys
 points_append [] ys = refl
 points_append (g ∷ xs) ys = ap (λ t. g.points ++ t) (points_append xs ys) ∙ sym (append_assoc g.points (points_in xs) (points_in ys))
-
-all_points_frozen : (s : State) (g : Graph) → all_points (frozen s g) ≡ all_points (record s { rw = g })
-all_points_frozen s g =
-    append-nil (s.lti.points ++ points_in (s.ros ++ g ∷ []))
-    ∙ ap (λ t. s.lti.points ++ t) (points_append s.ros (g ∷ []) ∙ ap (λ t. points_in s.ros ++ t) (append-nil g.points))
-    ∙ sym (append_assoc s.lti.points (points_in s.ros) g.points)
 
 pids_frozen : (s : State) (g : Graph) → pids_of (all_points (frozen s g)) ≡ pids_of (all_points (record s { rw = g }))
 pids_frozen s g = ap pids_of (all_points_frozen s g)

@@ -21,6 +21,7 @@ use Rattle.ann_types.specs.Merge.{without}
 use Rattle.ann_dead.specs.Pids.{with_pid, IsAscending}
 use Rattle.ann_view.specs.Temp.{Temp, state_of, AreKept, IsOpenOver}
 use Rattle.ann_view.proofs.Deletes.{dead_added}
+use Rattle.ann_laws.proofs.Outlined.{length_put}
 
 -- the graphs of frozen rows
 abbrev pub graphs_of : List FrozenView → List Graph
@@ -31,13 +32,6 @@ pub above_nodes : (nodes : List Node) (pid : ℕ) → All (λ (x : Point). x.pid
 above_nodes nodes pid a =
     All-from_recursion (λ (x : Node). x.pid < pid) nodes
     (all_of_map (λ (x : Point). x.pid < pid) (point_of nodes) nodes (recursion_from_All (λ (x : Point). x.pid < pid) (graph_of nodes).points a))
-
-pub length_put : (params : Params) (g : Graph) (n tag : ℕ) (vector : List ℕ) → length (put params g n tag vector).points ≡ length g.points + 1
-length_put params g n tag vector =
-    sym (length-map (put params g n tag vector).points (λ (x : Point). x.pid))
-    ∙ ap length (pids_put params g n tag vector)
-    ∙ length_push (pids_of g.points) n
-    ∙ ap (λ k. k + 1) (length-map g.points (λ (x : Point). x.pid))
 
 -- rows with a point more leave room where there was room for two
 pub room_left : (params own : Params) (nodes nodes' : List Node) (pid tag : ℕ) (vector : List ℕ) → length nodes + 1 < params.freeze_at → graph_of nodes' ≡ put own (graph_of nodes) pid tag vector → length nodes' < params.freeze_at
@@ -163,10 +157,6 @@ replaced_is old kept params own rw rw' ros ros' dead dead' end begun begun' gone
     ap (λ (t : Temp). with_state t (with_dead t.state end)) (then ∙ made)
     ∙ ap (with_state old) (grown_dead old.params old.state (put old.params old.state.rw pid tag vector) end)
     ∙ ap (λ (d : List ℕ). with_state old (inserted old.params (with_dead old.state d) pid tag vector)) (added ∙ dead_added dead gone a ∙ ap (λ (t : Temp). ascending (t.state.dead ++ gone ∷ [])) is)
-
--- the graphs that stay keep what they have
-pub all_dropped : {A : Type 0} (P : A → Type 0) (n : ℕ) (xs : List A) → AllByRecursion P xs → AllByRecursion P (drop n xs)
-all_dropped P n xs a = all_right P (take n xs) (drop n xs) (subst (AllByRecursion P) (sym (take-append-drop n xs)) a)
 
 -- the frozen graphs that an open merge takes
 pub taken_are : (old : Temp) (params : Params) (rw : TableView) (ros first : List FrozenView) (dead : List ℕ) (begun : Option Begun) (b : Begun) (count : ℕ) → temp params (state_of rw ros dead begun) ≡ old → begun ≡ Some b → count ≡ b.frozen → first ≡ take count ros → MatchOption old.state.begun ⊥ (λ (o : Begun). graphs_of first ≡ take o.frozen old.state.ros)

@@ -10,7 +10,7 @@ use Rattle.ann_types.specs.declared.params.Params.{Params}
 use Rattle.ann_types.proofs.Sets.{all_append}
 use Rattle.ann_types.proofs.Graphs.{put_graph, empty_is_graph}
 use Rattle.ann_view.specs.View.{IsMemory}
-use Rattle.ann_view.proofs.Inserts.{all_dropped}
+use Rattle.ann_types.proofs.Each.{all_drop}
 
 pub memory_start : (params : Params) → IsMemory params (start empty_graph)
 memory_start params = record { lti = refl; rw = empty_is_graph params; ros = All-from_recursion (IsGraphOf params) [] tt }
@@ -46,5 +46,5 @@ memory_ended params s None w = w
 memory_ended params s (Some b) w = record {
   lti = refl;
   rw = w.rw;
-  ros = All-from_recursion (IsGraphOf params) (drop b.frozen s.ros) (all_dropped (IsGraphOf params) b.frozen s.ros (recursion_from_All (IsGraphOf params) s.ros w.ros));
+  ros = All-from_recursion (IsGraphOf params) (drop b.frozen s.ros) (all_drop (IsGraphOf params) b.frozen s.ros (recursion_from_All (IsGraphOf params) s.ros w.ros));
 }

@@ -42,7 +42,7 @@ long_of dead book lti query width w =
     map (rank (far_from lti.points query) (tag_of lti.points)) (without dead (rounds book lti query width w))
 
 -- what a search tells of ranked points
-hits_ranked : (points : List Point) (query pids : List ℕ) → map hit_of (map (rank (far_from points query) (tag_of points)) pids) ≡ map (hit points query) pids
+pub hits_ranked : (points : List Point) (query pids : List ℕ) → map hit_of (map (rank (far_from points query) (tag_of points)) pids) ≡ map (hit points query) pids
 hits_ranked points query [] = refl
 hits_ranked points query (p ∷ pids) = ap (λ t. hit points query p ∷ t) (hits_ranked points query pids)
 

@@ -1,9 +1,9 @@
 use Rattle.std.proofs.Common.{arith, vec_len, vec_capacity}
 use Rattle.ann_types.specs.Kept.{rule_of}
 use Rattle.ann_table.specs.Node.{apart_rows}
-use Rattle.ann_table.proofs.Settled.{settled_none}
 use Rattle.ann_table.proofs.Tables.{seen_row, seen_links_row, link_is, sound_linked, stored_set}
 use Rattle.ann_table.proofs.table.Table.set_neighbours.Goals as goal
+use Rattle.ann_prune.proofs.Prunes.{settled_none}
 
 pub set-requires-clause-row : goal.set-requires-clause-row
 set-requires-clause-row c = seen_links_row c.self.inside.params c.self.inside.spare c.self.inside.labels.items c.self.inside.vectors c.self.inside.links c.args.self.now c.self.view_is (vec_len c.self.inside.labels) (vec_capacity c.self.inside.labels) c.self.inside.labels.ok.0 c.self.invariant.0 c.args.row c.requires.row
