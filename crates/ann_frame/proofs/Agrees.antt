@@ -15,7 +15,7 @@ use Rattle.ann_entry.proofs.Placed.{stands_whole}
 use Rattle.ann_entry.proofs.Spelled.{spelled, first_byte, length_entry, spelled_again}
 use Rattle.ann_frame.specs.Frames.{AreEntries, IsFrame, frame_bytes, frames_bytes, entries_of}
 use Rattle.ann_frame.specs.Text.{StandFor, NoEntry, size_of, IsBroken, IsBadAt}
-use Rattle.ann_frame.specs.TextOf.{Text, stands, bad, front_entry, has_entry, whole_entries, entries_in, is_whole, frames_text, text_of, AgreesWith}
+use Rattle.ann_frame.specs.TextOf.{Text, stands, bad, front_entry, has_entry, whole_entries, entries_in, is_whole, frames_text, text_of}
 
 is_false : (b : Bool) → (b ≡ true → ⊥) → b ≡ false
 is_false true never = absurd (never refl)
@@ -24,10 +24,10 @@ is_false false never = refl
 both_hold : (a b m n : ℕ) → a ≡ b → m ≤ n → ((a == b) && nat_le m n) ≡ true
 both_hold a b m n same less = grind (arith, nat_tests, same, less)
 
-first_holds : (a b m n : ℕ) → ((a == b) && nat_le m n) ≡ true → a ≡ b
+pub first_holds : (a b m n : ℕ) → ((a == b) && nat_le m n) ≡ true → a ≡ b
 first_holds a b m n both = grind (arith, nat_tests, both)
 
-second_holds : (a b m n : ℕ) → ((a == b) && nat_le m n) ≡ true → m ≤ n
+pub second_holds : (a b m n : ℕ) → ((a == b) && nat_le m n) ≡ true → m ≤ n
 second_holds a b m n both = grind (arith, nat_tests, both)
 
 module _ (d : ℕ) where
@@ -51,7 +51,7 @@ module _ (d : ℕ) where
     long : kind_size (kind_of entry) d ≤ length written
     long = let size = length_entry d entry fits in let whole = length-append (entry_bytes entry) rest in omega (arith, size, whole)
 
-    entry_there : has_entry d written ≡ true
+    pub entry_there : has_entry d written ≡ true
     entry_there =
         ap (λ e. (get_or written 0 0 == kind_byte (kind_of e)) && nat_le (kind_size (kind_of e) d) (length written)) entry_same
         ∙ both_hold (get_or written 0 0) (kind_byte (kind_of entry)) (kind_size (kind_of entry) d) (length written) (first_byte entry rest) long
@@ -209,6 +209,3 @@ module _ (d : ℕ) where
             (ap (drop (length is.front + 1)) (is.cut ∙ sym (append_assoc is.front (1 ∷ []) is.tail))
             ∙ drop_at (is.front ++ 1 ∷ []) is.tail (length is.front + 1) (length-append is.front (1 ∷ [])))
             (drop_bytes (length is.front + 1) bytes small)
-
-  pub text_agrees : (bytes : List ℕ) → IsBytes bytes → AgreesWith d bytes (text_of d bytes)
-  text_agrees bytes small = record { stood = text_stands bytes; refused = λ n is. text_bad bytes n small is }

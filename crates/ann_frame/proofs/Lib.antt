@@ -4,3 +4,4 @@ pub mod Growing
 pub mod Steps
 pub mod Once
 pub mod Agrees
+pub mod Means

@@ -51,7 +51,13 @@ frames_text (suc n) d sofar at (gate ∷ tail) =
 abbrev pub text_of : ℕ → List ℕ → Text
 text_of d bytes = frames_text (length bytes) d [] 0 bytes
 
--- the text says what the bytes stand for, and where they are bad
+-- what a text says of bytes
+abbrev pub Means : ℕ → List ℕ → Text → Type 0
+Means d bytes (stands entries gate) = StandFor d bytes entries gate
+Means d bytes (bad n) = IsBadAt d bytes n
+
+-- the text says what the bytes stand for or where they are bad, and no other text does
 pub record AgreesWith (d : ℕ) (bytes : List ℕ) (text : Text) : Type 0 where
+  pub means : Means d bytes text
   pub stood : (entries : List Entry) (gate : ℕ) → StandFor d bytes entries gate → text ≡ stands entries gate
   pub refused : (n : ℕ) → IsBadAt d bytes n → text ≡ bad n

@@ -37,9 +37,24 @@ impl<F: LogFile> Model for Log<F> {
 
     ghost Value = { LogView F };
 
-    ghost view = { λ log. record { log = log.log; other = log.other; side = log.side; params = log.params; book = log.book; base = log.base; generation = log.generation; list = counted (said_in log.params log.book log.base log.generation) log.count (F.seen log.log); count = log.count; is_closed = log.closed } };
+    ghost view = { λ log. record {
+      log = log.log;
+      other = log.other;
+      side = log.side;
+      params = log.params;
+      book = log.book;
+      base = log.base;
+      generation = log.generation;
+      list = counted (said_in log.params log.book log.base log.generation) log.count (F.seen log.log);
+      count = log.count;
+      is_closed = log.closed;
+    } };
 
-    ghost invariant = { λ log. IsSound F.tells log.side (said_in log.params log.book log.base log.generation) (F.seen log.log) (F.seen log.other) (F.unsynced log.log) (F.unsynced log.other) log.gate log.count log.closed × HasRoom log.params.d log.room.frame.items log.room.preamble.items };
+    ghost invariant = { λ log.
+        IsSound F.tells log.side (said_in log.params log.book log.base log.generation)
+        (F.seen log.log) (F.seen log.other) (F.unsynced log.log) (F.unsynced log.other)
+        log.gate log.count log.closed
+        × HasRoom log.params.d log.room.frame.items log.room.preamble.items };
 }
 
 impl<F: LogFile> Log<F> {

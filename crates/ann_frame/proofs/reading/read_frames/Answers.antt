@@ -3,7 +3,7 @@ use Rattle.std.proofs.lemmas.List.{take_rest}
 use Rattle.ann_frame.specs.Frames.{AreFrames}
 use Rattle.ann_frame.specs.Found.{HasFrame, IsRefusedFrame}
 use Rattle.ann_bytes.proofs.Numbered.{drop_bytes}
-use Rattle.ann_frame.proofs.Agrees.{text_agrees}
+use Rattle.ann_frame.proofs.Means.{text_agrees}
 use Rattle.ann_frame.proofs.Once.{stand_once, stand_not_bad, refused_standing, refused_bad}
 use Rattle.ann_frame.proofs.Steps.{tail_here, byte_here, inside_here, shut_here, refused_here, frames_on, within_on}
 use Rattle.ann_frame.proofs.reading.read_frames.Goals as goal
@@ -94,7 +94,7 @@ returns-clause-only_bad c entry bad =
     stand_not_bad c.args.d (drop gate bytes) loop.entries (loop.at - gate) entry read bad
 
 pub returns-in_err-at-clause-agrees : goal.returns-in_err-at-clause-agrees
-returns-in_err-at-clause-agrees c = text_agrees c.args.d (drop c.args.gate c.args.bytes.now) (drop_bytes c.args.gate c.args.bytes.now (λ i. omega (arith, c.type_inv.bytes i)))
+returns-in_err-at-clause-agrees c = text_agrees c.args.d (drop c.args.gate c.args.bytes.now) (drop_bytes c.args.gate c.args.bytes.now (λ i. omega (arith, c.type_inv.bytes i))) (omega (arith, c.requires, length-drop c.args.gate c.args.bytes.now))
 
 pub returns-clause-agrees : goal.returns-clause-agrees
-returns-clause-agrees c = text_agrees c.args.d (drop c.args.gate c.args.bytes.now) (drop_bytes c.args.gate c.args.bytes.now (λ i. omega (arith, c.type_inv.bytes i)))
+returns-clause-agrees c = text_agrees c.args.d (drop c.args.gate c.args.bytes.now) (drop_bytes c.args.gate c.args.bytes.now (λ i. omega (arith, c.type_inv.bytes i))) (omega (arith, c.requires, length-drop c.args.gate c.args.bytes.now))
