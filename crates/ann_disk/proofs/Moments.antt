@@ -4,9 +4,9 @@ use Rattle.std.proofs.lemmas.List.{append-nil}
 use Rattle.std.proofs.lemmas.List.Elements.{All-append, All-push}
 use Rattle.std.specs.List.{All}
 use Rattle.ann_disk.specs.Image.{Unsynced, IsImage, EachImage, clean}
-use Rattle.ann_disk.specs.declared.file.Failed.{Failed}
+use Rattle.ann_fault.specs.declared.faults.Failed.{Failed}
 use Rattle.ann_disk.proofs.Images.{clean_only}
-use Rattle.ann_disk.specs.File.{LeavesOnly}
+use Rattle.ann_disk.specs.File.{LeavesOnly, IsUntouched}
 
 none : (P : Unsynced → Type 0) → All P []
 none P k d below = absurd (omega (arith, below))
@@ -35,10 +35,10 @@ module _ {F : Type 0} (past : F → List Unsynced) (unsynced : F → Unsynced) w
   }
 
   -- a call of `sync`, whatever it answers
-  pub after_sync : (old mid new : F) (P : List ℕ → Type 0) (bytes : List ℕ) (r : Result (Unit {0}) Failed) → LeavesOnly past unsynced old mid P → OnOk r (unsynced new ≡ clean bytes) → OnOk r (past new ≡ past mid ++ unsynced mid ∷ []) → OnErr r ((unsynced new ≡ unsynced mid) × (past new ≡ past mid)) → P bytes → LeavesOnly past unsynced old new P
-  after_sync old mid new P bytes (Ok x) sofar images history failed here =
+  pub after_sync : (seen : F → List ℕ) (old mid new : F) (P : List ℕ → Type 0) (bytes : List ℕ) (r : Result (Unit {0}) Failed) → LeavesOnly past unsynced old mid P → OnOk r (unsynced new ≡ clean bytes) → OnOk r (past new ≡ past mid ++ unsynced mid ∷ []) → OnErr r (IsUntouched seen unsynced past mid new) → P bytes → LeavesOnly past unsynced old new P
+  after_sync seen old mid new P bytes (Ok x) sofar images history failed here =
       synced old mid new P sofar history (λ image is. subst P (sym (clean_only bytes image (subst (λ u. IsImage u image) images is))) here)
-  after_sync old mid new P bytes (Err e) sofar images history failed here = unchanged old mid new P sofar failed.0 failed.1
+  after_sync seen old mid new P bytes (Err e) sofar images history failed here = unchanged old mid new P sofar failed.leaves failed.clock
 
   -- one run of calls behind another
   pub joined : (old mid new : F) (P : List ℕ → Type 0) → LeavesOnly past unsynced old mid P → LeavesOnly past unsynced mid new P → LeavesOnly past unsynced old new P

@@ -28,6 +28,12 @@ pub record LeavesOnly {F : Type 0} (past : F → List Unsynced) (unsynced : F �
   pub each : All (EachImage P) ended
   pub now : EachImage P (unsynced new)
 
+-- a call neither changed what a read gives, nor what a crash may leave
+pub record IsUntouched {F : Type 0} (seen : F → List ℕ) (unsynced : F → Unsynced) (past : F → List Unsynced) (old new : F) : Type 0 where
+  pub reads : seen new ≡ seen old
+  pub leaves : unsynced new ≡ unsynced old
+  pub clock : past new ≡ past old
+
 -- some image of it begins with these bytes
 abbrev pub BeginsAnImage : Unsynced → List ℕ → Type 0
 BeginsAnImage u bytes = (image : List ℕ) × IsImage u image × (take (length bytes) image ≡ bytes)

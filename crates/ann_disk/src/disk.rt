@@ -1,9 +1,9 @@
 // A log's file on the system's disk.
-ghost use Rattle.std.specs.Prelude.{◌≡◌, ◌+◌, ◌<◌, ◌^◌, ◌↔◌, [], length, OnOk, IsOk};
-ghost use Rattle.ann_disk.specs.Causes.{HasCause};
+ghost use Rattle.std.specs.Prelude.{◌≡◌, ◌+◌, ◌<◌, ◌^◌, [], length, OnOk};
 ghost use Rattle.ann_disk.specs.Image.{clean};
 
 use crate::{Failed, LogFile};
+use ann_fault::Faults;
 use std::fs::{File, Files, OpenOptions};
 use std::io;
 use std::os::unix::fs::FileExt;
@@ -13,7 +13,7 @@ use std::os::unix::fs::FileExt;
 #[derive(Drop)]
 pub struct DiskFile<R: Files<File = File> + Drop> {
     file: Named<R>,
-    faults: u64,
+    faults: Faults,
 }
 
 // A name, and the open file once a call has opened it.
@@ -82,7 +82,7 @@ impl<R: Files<File = File> + Drop> DiskFile<R> {
                 name,
                 file: None,
             },
-            faults: 0,
+            faults: Faults::none(),
         }
     }
 
@@ -90,21 +90,7 @@ impl<R: Files<File = File> + Drop> DiskFile<R> {
     pub fn faults(&self) -> u64
         ensures { result ≡ ⟦<DiskFile<R> as LogFile>⟧.faults self.now }
     {
-        self.faults
-    }
-
-    // Counts a fault where a call failed.
-    fn counted<T: Drop>(&mut self, answer: io::Result<T>) -> Result<T, Failed>
-        ensures answer { IsOk result ↔ IsOk answer }
-        ensures cause { HasCause self.old.faults self.new.faults result }
-    {
-        match answer {
-            Ok(value) => Ok(value),
-            Err(_) => {
-                self.faults = self.faults.saturating_add(1);
-                Err(Failed)
-            }
-        }
+        self.faults.count
     }
 }
 
@@ -117,32 +103,32 @@ impl<R: Files<File = File> + Drop> LogFile for DiskFile<R> {
 
     ghost past = { λ _. [] };
 
-    ghost faults = { λ file. file.faults };
+    ghost faults = { λ file. file.faults.count };
 
     ghost reads_an_image = { λ file told. absurd told };
 
     fn length(&mut self) -> Result<u64, Failed> {
         let answer = self.file.open().and_then(|file| reach(file, 0));
-        self.counted(answer)
+        self.faults.counted(answer)
     }
 
     fn read_at(&mut self, at: u64, buf: &mut [u8]) -> Result<(), Failed> {
         let answer = self.file.open().and_then(|file| read(file, at, buf));
-        self.counted(answer)
+        self.faults.counted(answer)
     }
 
     fn write_at(&mut self, at: u64, bytes: &[u8]) -> Result<(), Failed> {
         let answer = self.file.open().and_then(|file| write(file, at, bytes));
-        self.counted(answer)
+        self.faults.counted(answer)
     }
 
     fn cut(&mut self, to: u64) -> Result<(), Failed> {
         let answer = self.file.open().and_then(|file| cut(file, to));
-        self.counted(answer)
+        self.faults.counted(answer)
     }
 
     fn sync(&mut self) -> Result<(), Failed> {
         let answer = self.file.open().and_then(|file| file.sync_all());
-        self.counted(answer)
+        self.faults.counted(answer)
     }
 }

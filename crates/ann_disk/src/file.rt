@@ -1,15 +1,10 @@
 // The file of a log: what a read gives, and what a crash may leave.
 ghost use Rattle.std.specs.Prelude.{◌≡◌, ◌+◌, ◌<◌, ◌≤◌, ◌^◌, [], ◌∷◌, ◌++◌, List, ℕ, length, take, slice_range, OnOk, OnErr, IfOk};
-ghost use Rattle.ann_disk.specs.Causes.{HasCause};
-ghost use Rattle.ann_disk.specs.File.{overwritten, Torn, Cut};
+ghost use Rattle.ann_fault.specs.Counts.{HasCause};
+ghost use Rattle.ann_disk.specs.File.{overwritten, Torn, Cut, IsUntouched};
 ghost use Rattle.ann_disk.specs.Image.{Unsynced, IsImage, clean, after_write, after_cut};
 
-use thiserror::Error;
-
-/// The call failed, and the file's count of faults rose or stands at its last value.
-#[derive(Clone, Copy, Debug, PartialEq, Eq, Error)]
-#[error("the file of the log failed")]
-pub struct Failed;
+use ann_fault::Failed;
 
 /// A file that is read, written, cut and synced.
 ///
@@ -34,14 +29,14 @@ pub trait LogFile: Drop {
     /// The number of bytes.
     fn length(&mut self) -> Result<u64, Failed>
         ensures value { tells → IfOk result (λ n. n ≡ length (seen self.old)) }
-        ensures same { tells → (seen self.new ≡ seen self.old) × (unsynced self.new ≡ unsynced self.old) × (past self.new ≡ past self.old) }
+        ensures same { tells → IsUntouched seen unsynced past self.old self.new }
         ensures cause { HasCause (faults self.old) (faults self.new) result };
 
     /// Reads the bytes from a place on into the whole of a buffer.
     fn read_at(&mut self, at: u64, buf: &mut [u8]) -> Result<(), Failed>
         requires { tells → at + length buf.old ≤ length (seen self.old) }
         ensures bytes { tells → OnOk result (buf.new ≡ slice_range (seen self.old) at (at + length buf.old)) }
-        ensures same { tells → (seen self.new ≡ seen self.old) × (unsynced self.new ≡ unsynced self.old) × (past self.new ≡ past self.old) }
+        ensures same { tells → IsUntouched seen unsynced past self.old self.new }
         ensures cause { HasCause (faults self.old) (faults self.new) result };
 
     /// Writes over what is there, and past the end. After a failure some part of the range may be written; a crash
@@ -71,7 +66,7 @@ pub trait LogFile: Drop {
         ensures seen { tells → seen self.new ≡ seen self.old }
         ensures images { tells → OnOk result (unsynced self.new ≡ clean (seen self.old)) }
         ensures past { tells → OnOk result (past self.new ≡ past self.old ++ unsynced self.old ∷ []) }
-        ensures failed { tells → OnErr result ((unsynced self.new ≡ unsynced self.old) × (past self.new ≡ past self.old)) }
+        ensures failed { tells → OnErr result (IsUntouched seen unsynced past self.old self.new) }
         ensures cause { HasCause (faults self.old) (faults self.new) result };
 
     /// What a read gives is one of the images.

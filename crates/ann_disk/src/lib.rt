@@ -12,7 +12,8 @@ mod memory;
 mod stretch;
 mod synced;
 
+pub use ann_fault::Failed;
 pub use disk::DiskFile;
-pub use file::{Failed, LogFile};
+pub use file::LogFile;
 pub use memory::MemoryFile;
 pub use synced::{cut_any, cut_synced, write_synced};

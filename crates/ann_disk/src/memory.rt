@@ -1,13 +1,15 @@
 // A file in memory. It keeps what had been done at each sync.
-ghost use Rattle.std.specs.Prelude.{◌≡◌, ◌+◌, ◌-◌, ◌≤◌, ◌<◌, ◌^◌, ◌++◌, [], ◌∷◌, length, take, min, OnOk, OnErr, IfOk, IsErr, IsTrue, ◌↔◌, slice_range};
+ghost use Rattle.std.specs.Prelude.{◌≡◌, ◌+◌, ◌≤◌, ◌<◌, ◌^◌, ◌++◌, [], ◌∷◌, ℕ, List, length, take, OnOk, OnErr, IfOk, IsErr, ◌↔◌, slice_range};
 ghost use Rattle.std.proofs.Props.{props};
-ghost use Rattle.ann_disk.specs.Causes.{Rose, HasCause};
 ghost use Rattle.ann_disk.specs.File.{overwritten, Torn, Cut};
+ghost use Rattle.std.specs.List.{AllByRecursion};
+ghost use Rattle.ann_disk.specs.Chosen.{image_of};
 ghost use Rattle.ann_disk.specs.Image.{IsImage, clean, after_write, after_cut};
 ghost use Rattle.ann_disk.specs.Stretch.{unsynced_of};
 
 use crate::stretch::Stretch;
 use crate::{Failed, LogFile};
+use ann_fault::{Calls, Faults};
 use std::alloc::{AllocError, Global};
 use std::mem;
 
@@ -19,9 +21,8 @@ pub struct MemoryFile {
     bytes: Vec<u8>,
     stretch: Stretch,
     past: Vec<Stretch>,
-    failing: Vec<u64>,
-    calls: u64,
-    faults: u64,
+    calls: Calls,
+    faults: Faults,
     ghost image: { IsImage (unsynced_of stretch) bytes.items } by { Prim.hlevel props },
 }
 
@@ -50,15 +51,14 @@ impl MemoryFile {
     {
         let held = bytes.to_vec(alloc)?;
         let stretch = Stretch::new(alloc, bytes)?;
-        let failing = failing.to_vec(alloc)?;
+        let calls = Calls::new(alloc, failing)?;
         Ok(MemoryFile {
             alloc,
             bytes: held,
             stretch,
             past: Vec::new(alloc),
-            failing,
-            calls: 0,
-            faults: 0,
+            calls,
+            faults: Faults::none(),
         })
     }
 
@@ -73,9 +73,16 @@ impl MemoryFile {
     /// still unsynced: a further crash may leave any other image.
     ///
     /// The number modulo 4 says what stands where a byte is in doubt: what stood there at the last sync, what a read
-    /// gives, noise, or a mixture. The rest of the number picks the length and the noise.
+    /// gives, noise, or a mixture. The rest of the number picks the length and the noise. Numbers of 64 bits are too few
+    /// for all images; with larger ones none is left out.
     pub fn images(&self, chooser: u64) -> Result<MemoryFile, AllocError>
+        ensures picked { IfOk result (λ file.
+            memory_bytes file ≡ image_of (memory_unsynced self.now) (memory_bytes self.now) chooser) }
         ensures image { IfOk result (λ file. IsImage (memory_unsynced self.now) (memory_bytes file)) }
+        // Each image is picked by some number.
+        ensures onto { (image : List ℕ) → IsImage (memory_unsynced self.now) image →
+            AllByRecursion (λ byte. byte < 256) image →
+            (number : ℕ) × (image_of (memory_unsynced self.now) (memory_bytes self.now) number ≡ image) }
         ensures unsynced { IfOk result (λ file. memory_unsynced file ≡ memory_unsynced self.now) }
         ensures fresh { IfOk result (IsFresh []) }
     {
@@ -86,50 +93,26 @@ impl MemoryFile {
             bytes,
             stretch,
             past: Vec::new(self.alloc),
-            failing: Vec::new(self.alloc),
-            calls: 0,
-            faults: 0,
+            calls: Calls::new(self.alloc, &[])?,
+            faults: Faults::none(),
         })
     }
 }
 
 impl MemoryFile {
-    ghost use Rattle.ann_disk.specs.Memory.{memory_bytes, memory_unsynced, memory_past, memory_faults, FailsNext, CountsCall, HoldsSame};
-
-    // Counts a call, and says whether it is one of those that fail.
-    fn begin(&mut self) -> bool
-        ensures fails { IsTrue result ↔ FailsNext self.old }
-        ensures counts { CountsCall self.old self.new }
-        ensures same { HoldsSame self.old self.new }
-        ensures faults { self.new.faults ≡ self.old.faults }
-    {
-        self.calls = self.calls.saturating_add(1);
-        let call = self.calls;
-        self.failing.iter().any(|&number| number == call)
-    }
-
-    // Counts a fault.
-    fn fault(&mut self) -> Failed
-        ensures same { HoldsSame self.old self.new }
-        ensures calls { (self.new.calls ≡ self.old.calls) × (self.new.failing ≡ self.old.failing) }
-        ensures later { self.old.faults ≤ self.new.faults }
-        ensures rose { Rose self.old.faults self.new.faults }
-    {
-        self.faults = self.faults.saturating_add(1);
-        Failed
-    }
+    ghost use Rattle.ann_disk.specs.Memory.{memory_bytes, memory_unsynced, memory_past, HoldsSame};
 
     // Writes a piece, the front of a write of so many bytes. The whole range counts as written, whatever the answer.
     fn store(&mut self, at: u64, piece: &[u8], count: u64) -> Result<(), AllocError>
         requires place { at ≤ length (memory_bytes self.old) }
         requires part { length piece.now ≤ count }
         requires end { at + count < 2 ^ 64 }
-        ensures bytes { OnOk result (memory_bytes self.new ≡ overwritten (memory_bytes self.old) at piece.now) }
+        ensures bytes { OnOk result
+            (memory_bytes self.new ≡ overwritten (memory_bytes self.old) at piece.now) }
         ensures torn { Torn at count (memory_bytes self.old) (memory_bytes self.new) }
         ensures images { memory_unsynced self.new ≡ after_write at count (memory_unsynced self.old) }
         ensures past { memory_past self.new ≡ memory_past self.old }
-        ensures calls { (self.new.calls ≡ self.old.calls) × (self.new.failing ≡ self.old.failing) }
-        ensures faults { self.new.faults ≡ self.old.faults }
+        ensures counts { (self.new.calls ≡ self.old.calls) × (self.new.faults ≡ self.old.faults) }
     {
         self.stretch.add_write(at, count);
         overwrite(&mut self.bytes, at as usize, piece)
@@ -144,8 +127,7 @@ impl MemoryFile {
         ensures torn { Cut to (memory_bytes self.old) (memory_bytes self.new) }
         ensures images { memory_unsynced self.new ≡ after_cut to (memory_unsynced self.old) }
         ensures past { memory_past self.new ≡ memory_past self.old }
-        ensures calls { (self.new.calls ≡ self.old.calls) × (self.new.failing ≡ self.old.failing) }
-        ensures faults { self.new.faults ≡ self.old.faults }
+        ensures counts { (self.new.calls ≡ self.old.calls) × (self.new.faults ≡ self.old.faults) }
     {
         self.bytes.truncate(end as usize);
         self.stretch.add_cut(to);
@@ -155,10 +137,10 @@ impl MemoryFile {
     fn settle(&mut self) -> Result<(), AllocError>
         ensures bytes { memory_bytes self.new ≡ memory_bytes self.old }
         ensures images { OnOk result (memory_unsynced self.new ≡ clean (memory_bytes self.old)) }
-        ensures past { OnOk result (memory_past self.new ≡ memory_past self.old ++ memory_unsynced self.old ∷ []) }
-        ensures err { OnErr result ((memory_unsynced self.new ≡ memory_unsynced self.old) × (memory_past self.new ≡ memory_past self.old)) }
-        ensures calls { (self.new.calls ≡ self.old.calls) × (self.new.failing ≡ self.old.failing) }
-        ensures faults { self.new.faults ≡ self.old.faults }
+        ensures past { OnOk result
+            (memory_past self.new ≡ memory_past self.old ++ memory_unsynced self.old ∷ []) }
+        ensures err { OnErr result (HoldsSame self.old self.new) }
+        ensures counts { (self.new.calls ≡ self.old.calls) × (self.new.faults ≡ self.old.faults) }
     {
         self.past.reserve(1)?;
         let next = Stretch::new(self.alloc, &self.bytes)?;
@@ -169,7 +151,7 @@ impl MemoryFile {
 }
 
 impl LogFile for MemoryFile {
-    ghost use Rattle.ann_disk.specs.Memory.{memory_bytes, memory_unsynced, memory_past, memory_faults, FailsNext, CountsCall, HoldsSame};
+    ghost use Rattle.ann_disk.specs.Memory.{memory_bytes, memory_unsynced, memory_past, memory_faults, FailsNext, IsCounted, HoldsSame};
 
     ghost tells = { Unit {0} };
 
@@ -187,11 +169,10 @@ impl LogFile for MemoryFile {
         ensures value { IfOk result (λ n. n ≡ length (memory_bytes self.old)) }
         ensures fails { IsErr result ↔ FailsNext self.old }
         ensures same { HoldsSame self.old self.new }
-        ensures counts { CountsCall self.old self.new }
-        ensures cause { HasCause (memory_faults self.old) (memory_faults self.new) result }
+        ensures counted { IsCounted self.old self.new result }
     {
-        if self.begin() {
-            return Err(self.fault());
+        if self.calls.begin() {
+            return Err(self.faults.fail());
         }
         Ok(self.bytes.len() as u64)
     }
@@ -201,11 +182,10 @@ impl LogFile for MemoryFile {
         ensures bytes { OnOk result (buf.new ≡ slice_range (memory_bytes self.old) at (at + length buf.old)) }
         ensures fails { IsErr result ↔ FailsNext self.old }
         ensures same { HoldsSame self.old self.new }
-        ensures counts { CountsCall self.old self.new }
-        ensures cause { HasCause (memory_faults self.old) (memory_faults self.new) result }
+        ensures counted { IsCounted self.old self.new result }
     {
-        if self.begin() {
-            return Err(self.fault());
+        if self.calls.begin() {
+            return Err(self.faults.fail());
         }
         let from = at as usize;
         buf.copy_from_slice(&self.bytes[from..from + buf.len()]);
@@ -214,23 +194,25 @@ impl LogFile for MemoryFile {
 
     fn write_at(&mut self, at: u64, bytes: &[u8]) -> Result<(), Failed>
         requires { at ≤ length (memory_bytes self.old) }
-        ensures written { OnOk result (memory_bytes self.new ≡ overwritten (memory_bytes self.old) at bytes.now) }
-        ensures torn { OnErr result (Torn at (length bytes.now) (memory_bytes self.old) (memory_bytes self.new)) }
-        ensures images { memory_unsynced self.new ≡ after_write at (length bytes.now) (memory_unsynced self.old) }
+        ensures written { OnOk result
+            (memory_bytes self.new ≡ overwritten (memory_bytes self.old) at bytes.now) }
+        ensures torn { OnErr result
+            (Torn at (length bytes.now) (memory_bytes self.old) (memory_bytes self.new)) }
+        ensures images { memory_unsynced self.new
+            ≡ after_write at (length bytes.now) (memory_unsynced self.old) }
         ensures past { memory_past self.new ≡ memory_past self.old }
         ensures end { at + length bytes.now < 2 ^ 64 }
         ensures fails { FailsNext self.old → IsErr result }
-        ensures counts { CountsCall self.old self.new }
-        ensures cause { HasCause (memory_faults self.old) (memory_faults self.new) result }
+        ensures counted { IsCounted self.old self.new result }
     {
-        if self.begin() {
+        if self.calls.begin() {
             // Half of it is written.
             let _ = self.store(at, &bytes[..bytes.len() / 2], bytes.len() as u64);
-            return Err(self.fault());
+            return Err(self.faults.fail());
         }
         match self.store(at, bytes, bytes.len() as u64) {
             Ok(()) => Ok(()),
-            Err(_) => Err(self.fault()),
+            Err(_) => Err(self.faults.fail()),
         }
     }
 
@@ -241,14 +223,13 @@ impl LogFile for MemoryFile {
         ensures images { memory_unsynced self.new ≡ after_cut to (memory_unsynced self.old) }
         ensures past { memory_past self.new ≡ memory_past self.old }
         ensures fails { IsErr result ↔ FailsNext self.old }
-        ensures counts { CountsCall self.old self.new }
-        ensures cause { HasCause (memory_faults self.old) (memory_faults self.new) result }
+        ensures counted { IsCounted self.old self.new result }
     {
-        if self.begin() {
+        if self.calls.begin() {
             // Half of it is cut off.
             let length = self.bytes.len() as u64;
             self.shorten(to, length - (length - to) / 2);
-            return Err(self.fault());
+            return Err(self.faults.fail());
         }
         self.shorten(to, to);
         Ok(())
@@ -257,14 +238,14 @@ impl LogFile for MemoryFile {
     fn sync(&mut self) -> Result<(), Failed>
         ensures bytes { memory_bytes self.new ≡ memory_bytes self.old }
         ensures images { OnOk result (memory_unsynced self.new ≡ clean (memory_bytes self.old)) }
-        ensures past { OnOk result (memory_past self.new ≡ memory_past self.old ++ memory_unsynced self.old ∷ []) }
+        ensures past { OnOk result
+            (memory_past self.new ≡ memory_past self.old ++ memory_unsynced self.old ∷ []) }
         ensures failed { OnErr result (HoldsSame self.old self.new) }
         ensures fails { FailsNext self.old → IsErr result }
-        ensures counts { CountsCall self.old self.new }
-        ensures cause { HasCause (memory_faults self.old) (memory_faults self.new) result }
+        ensures counted { IsCounted self.old self.new result }
     {
-        if self.begin() || self.settle().is_err() {
-            return Err(self.fault());
+        if self.calls.begin() || self.settle().is_err() {
+            return Err(self.faults.fail());
         }
         Ok(())
     }

@@ -1,6 +1,7 @@
 // What was done to a file in memory since its last sync.
-ghost use Rattle.std.specs.Prelude.{◌≡◌, ◌+◌, ◌<◌, ◌≤◌, ◌^◌, IfOk, length, slice_index_or};
-ghost use Rattle.ann_disk.specs.Image.{IsFree, IsImage, clean, after_write, after_cut};
+ghost use Rattle.std.specs.Prelude.{◌≡◌, ◌+◌, ◌<◌, ◌≤◌, ◌^◌, IfOk, slice_index_or, true};
+ghost use Rattle.ann_disk.specs.Chosen.{image_of, end_of, byte_of, filling, noise_of, way_by};
+ghost use Rattle.ann_disk.specs.Image.{IsImage, clean, after_write, after_cut};
 
 use std::alloc::{AllocError, Global};
 
@@ -16,13 +17,13 @@ pub struct Stretch {
 // How many ways there are to fill the places that are in doubt.
 const FILLINGS: u64 = 4;
 
-// One of the ends from low to high, picked by a number.
-fn end_between(low: u64, high: u64, chooser: u64) -> u64
-    requires { low ≤ high }
-    ensures no_shorter { low ≤ result }
-    ensures no_longer { result ≤ high }
+// 64 bits of noise for a place.
+fn noise(place: usize, chooser: u64) -> u64
+    ensures { result ≡ noise_of chooser place }
 {
-    low + chooser % (high - low).saturating_add(1)
+    chooser
+        .wrapping_add(place as u64)
+        .wrapping_mul(11400714819323198485)
 }
 
 impl Stretch {
@@ -74,43 +75,71 @@ impl Stretch {
         self.low = self.low.min(to);
     }
 
-    /// One of the images, picked by a number: its length, and what stands where a byte is in doubt.
+    /// One of the images, picked by a number: its end, and what stands where a byte is in doubt.
     pub fn image(&self, alloc: Global, seen: &[u8], chooser: u64) -> Result<Vec<u8>, AllocError>
         requires { self.now.low ≤ self.now.high }
-        ensures { IfOk result (λ image. IsImage (unsynced_of self.now) image.items) }
+        ensures picked { IfOk result
+            (λ image. image.items ≡ image_of (unsynced_of self.now) seen.now chooser) }
+        ensures image { IfOk result (λ image. IsImage (unsynced_of self.now) image.items) }
     {
-        let length = end_between(self.low, self.high, chooser / FILLINGS);
+        let end = self.end(chooser);
         let mut image = Vec::new(alloc);
-        let mut noise = chooser;
-        for place in 0..length as usize {
-            noise = noise
-                .wrapping_mul(6364136223846793005)
-                .wrapping_add(1442695040888963407);
-            image.push(self.byte(place, self.filling(place, seen, chooser % FILLINGS, noise)))?;
+        for place in 0..end as usize {
+            image.push(self.byte(place, seen, chooser))?;
         }
         Ok(image)
     }
 
-    // The byte there, or this one where it is in doubt.
-    fn byte(&self, place: usize, doubt: u8) -> u8
-        ensures { place < length self.now.kept.items → IsFree self.now.covered.items place → result ≡ slice_index_or self.now.kept.items place 0 }
+    // One of the ends from the least to the greatest.
+    fn end(&self, chooser: u64) -> u64
+        requires { self.now.low ≤ self.now.high }
+        ensures { result ≡ end_of (unsynced_of self.now) chooser }
     {
-        let is_free = place < self.covered.len() && !self.covered[place];
-        if is_free && place < self.kept.len() {
-            self.kept[place]
+        let more = self.high - self.low;
+        let pick = chooser / FILLINGS;
+        if pick > more {
+            self.low + pick % (more + 1)
         } else {
-            doubt
+            self.low + pick
         }
     }
 
+    // The byte at a place: the one at the sync, where no write has covered it.
+    fn byte(&self, place: usize, seen: &[u8], chooser: u64) -> u8
+        ensures { result ≡ byte_of (unsynced_of self.now) seen.now chooser place }
+    {
+        if !self.is_covered(place) && place < self.kept.len() {
+            self.kept[place]
+        } else {
+            self.filling(place, seen, chooser)
+        }
+    }
+
+    // Whether a write has covered a place, or no byte stood there.
+    fn is_covered(&self, place: usize) -> bool
+        ensures { result ≡ slice_index_or self.now.covered.items place true }
+    {
+        self.covered.get(place).copied().unwrap_or(true)
+    }
+
     // A byte for a place in doubt: the one at the sync, the one that a read gives, noise, or any of these.
-    fn filling(&self, place: usize, seen: &[u8], how: u64, noise: u64) -> u8 {
+    fn filling(&self, place: usize, seen: &[u8], chooser: u64) -> u8
+        ensures { result ≡ filling (unsynced_of self.now) seen.now chooser place }
+    {
+        let noise = noise(place, chooser);
         let any = (noise >> 56) as u8;
-        let how = if how == 3 { (noise >> 40) % 3 } else { how };
-        match how {
+        match way(noise, chooser) {
             0 => self.kept.get(place).copied().unwrap_or(0),
             1 => seen.get(place).copied().unwrap_or(any),
             _ => any,
         }
     }
+}
+
+// Which of the bytes a place in doubt has, at this noise.
+fn way(noise: u64, chooser: u64) -> u64
+    ensures { result ≡ way_by noise chooser }
+{
+    let way = chooser % FILLINGS;
+    if way == 3 { (noise >> 40) % 3 } else { way }
 }

@@ -4,7 +4,8 @@ use Rattle.std.specs.List.{AllByRecursion}
 use Rattle.std.proofs.lemmas.List.{drop_at}
 use Rattle.ann_types.specs.declared.entry.Entry.{Entry}
 use Rattle.ann_entry.specs.EntryBytes.{IsEntry, entry_bytes, entries_bytes}
-use Rattle.ann_entry.proofs.Spelled.{kind_of, spelled, one_kind, first_byte, spelled_again, at_least_five}
+use Rattle.ann_entry.specs.Kinds.{kind_of}
+use Rattle.ann_entry.proofs.Spelled.{spelled, one_kind, first_byte, spelled_again, at_least_five}
 
 module _ (d : ℕ) where
   module _ (a b : Entry) (x y : List ℕ) (a_fits : IsEntry d a) (b_fits : IsEntry d b) (same : entry_bytes a ++ x ≡ entry_bytes b ++ y) where

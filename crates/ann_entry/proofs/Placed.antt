@@ -9,8 +9,8 @@ use Rattle.ann_entry.specs.declared.entry_refused.EntryRefused.{EntryRefused}
 use Rattle.ann_entry.specs.declared.entry_refused.EntryRefused.TheVariants as refused
 use Rattle.ann_entry.specs.EntryBytes.{IsInRange, HasComponents, entry_bytes}
 use Rattle.ann_entry.specs.Standing.{StandsAt, IsOtherKind, EndsWithin}
-use Rattle.ann_entry.specs.Kinds.{kind_byte, kind_size, IsNoKind}
-use Rattle.ann_entry.proofs.Spelled.{AreBytes, bytes_append, zeros_small, bytes_drop, kind_of, entry_of, spelled, one_kind, kind_range, first_byte, length_entry, at_least_five, spelled_whole, spelled_fits}
+use Rattle.ann_entry.specs.Kinds.{kind_byte, kind_size, kind_of, IsNoKind}
+use Rattle.ann_entry.proofs.Spelled.{AreBytes, bytes_append, zeros_small, bytes_drop, entry_of, spelled, one_kind, kind_range, first_byte, length_entry, at_least_five, spelled_whole, spelled_fits}
 use Rattle.ann_entry.proofs.Fronts.{one_entry, one_rest}
 
 -- an entry that was written stands there

@@ -8,7 +8,7 @@ use Rattle.ann_types.specs.declared.entry.Entry.TheVariants.{Insert, Delete, Beg
 use Rattle.ann_entry.specs.declared.kind.Kind.{Kind}
 use Rattle.ann_entry.specs.declared.kind.Kind.TheVariants as kinds
 use Rattle.ann_entry.specs.EntryBytes.{IsEntry, entry_bytes}
-use Rattle.ann_entry.specs.Kinds.{kind_byte, kind_size}
+use Rattle.ann_entry.specs.Kinds.{kind_byte, kind_size, kind_of}
 
 -- the entry of a kind with these fields
 abbrev pub entry_of : Kind → ℕ → ℕ → List ℕ → Entry
@@ -21,13 +21,6 @@ entry_of kinds.Replace by number vector = Replace by number vector
 -- the entry of a kind that these bytes begin with
 abbrev pub spelled : Kind → ℕ → List ℕ → Entry
 spelled kind d bytes = entry_of kind (number_of (field bytes 1 4)) (number_of (field bytes 5 8)) (field bytes 13 d)
-
-abbrev pub kind_of : Entry → Kind
-kind_of (Insert by tag vector) = kinds.Insert
-kind_of (Delete by tag) = kinds.Delete
-kind_of (Begin by) = kinds.Begin
-kind_of (End by segment) = kinds.End
-kind_of (Replace by tag vector) = kinds.Replace
 
 -- ---- kinds
 

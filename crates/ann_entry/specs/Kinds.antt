@@ -1,10 +1,20 @@
 -- The kinds of entries.
 use Rattle.std.specs.Prelude.{ℕ, ◌+◌, ◌≤◌, List, length}
+use Rattle.ann_types.specs.declared.entry.Entry.{Entry}
+use Rattle.ann_types.specs.declared.entry.Entry.TheVariants as entry
 use Rattle.ann_entry.specs.Standing.{IsOtherKind}
 use Rattle.ann_entry.specs.declared.entry_refused.EntryRefused.{EntryRefused}
 use Rattle.ann_entry.specs.declared.entry_refused.EntryRefused.TheVariants as refused
 use Rattle.ann_entry.specs.declared.kind.Kind.{Kind}
 use Rattle.ann_entry.specs.declared.kind.Kind.TheVariants.{Insert, Delete, Begin, End, Replace}
+
+-- the kind of an entry
+abbrev pub kind_of : Entry → Kind
+kind_of (entry.Insert by tag vector) = Insert
+kind_of (entry.Delete by tag) = Delete
+kind_of (entry.Begin by) = Begin
+kind_of (entry.End by segment) = End
+kind_of (entry.Replace by tag vector) = Replace
 
 -- the byte that says which kind an entry has
 abbrev pub kind_byte : Kind → ℕ

@@ -28,7 +28,8 @@ pub fn decode(
     ensures kind { IsErrOf result EntryRefused.Kind ↔ IsOtherKind bytes.now at }
     ensures short { IsErrOf result EntryRefused.Short ↔ EndsWithin d bytes.now at }
     // An entry that stands there is the one that is read, unless memory runs out.
-    ensures only { (entry : Entry) → StandsAt d bytes.now at entry → MatchResult result (λ found. found.0 ≡ entry) (λ refused. refused ≡ EntryRefused.Memory alloc_error) }
+    ensures only { (entry : Entry) → StandsAt d bytes.now at entry →
+        MatchResult result (λ found. found.0 ≡ entry) (λ refused. refused ≡ EntryRefused.Memory alloc_error) }
 {
     let kind = kind_at(bytes, at)?;
     let size = kind.size(usize::from(d));

@@ -77,7 +77,8 @@ fn put_named(out: &mut [u8], at: usize, kind: Kind, by: u32, number: u64) -> usi
 // Writes besides a vector.
 fn put_point(out: &mut [u8], at: usize, kind: Kind, by: u32, tag: Tag, vector: &Vector) -> usize
     requires { at + 13 + length vector.now ≤ length out.old }
-    ensures written { out.new ≡ with_field out.old at (kind_byte kind ∷ bytes_of 4 by ++ bytes_of 8 tag ++ vector.now) }
+    ensures written { out.new
+        ≡ with_field out.old at (kind_byte kind ∷ bytes_of 4 by ++ bytes_of 8 tag ++ vector.now) }
     ensures after { result ≡ at + 13 + length vector.now }
     ensures ranges { (by < 2 ^ 32) × (tag < 2 ^ 64) }
 {

@@ -8,13 +8,13 @@ use Rattle.ann_bytes.proofs.Numbers.{number_of-bytes_of}
 use Rattle.ann_types.specs.declared.entry.Entry.{Entry}
 use Rattle.ann_types.specs.declared.entry.Entry.TheVariants.{Insert, Delete, Begin, End, Replace}
 use Rattle.ann_entry.specs.EntryBytes.{IsEntry, entry_bytes, entries_bytes}
-use Rattle.ann_entry.specs.Kinds.{kind_byte, kind_size}
+use Rattle.ann_entry.specs.Kinds.{kind_byte, kind_size, kind_of}
 use Rattle.ann_entry.proofs.Fronts.{length_entries}
 use Rattle.ann_entry.proofs.Placed.{stands_whole}
-use Rattle.ann_entry.proofs.Spelled.{AreBytes, kind_of, spelled, first_byte, length_entry, spelled_again, bytes_drop}
+use Rattle.ann_entry.proofs.Spelled.{AreBytes, spelled, first_byte, length_entry, spelled_again, bytes_drop}
 use Rattle.ann_frame.specs.Frames.{AreEntries, IsFrame, frame_bytes, frames_bytes, entries_of}
 use Rattle.ann_frame.specs.Text.{StandFor, NoEntry, size_of, IsBroken, IsBadAt}
-use Rattle.ann_frame.specs.TextOf.{Text, stands, bad, front_entry, has_entry, whole_entries, entries_in, is_whole, frames_text, text_of}
+use Rattle.ann_frame.specs.TextOf.{Text, stands, bad, front_entry, has_entry, whole_entries, entries_in, is_whole, frames_text, text_of, AgreesWith}
 use Rattle.ann_frame.proofs.Steps.{take_small}
 
 is_false : (b : Bool) → (b ≡ true → ⊥) → b ≡ false
@@ -209,3 +209,6 @@ module _ (d : ℕ) where
             (ap (drop (length is.front + 1)) (is.cut ∙ sym (append_assoc is.front (1 ∷ []) is.tail))
             ∙ drop_at (is.front ++ 1 ∷ []) is.tail (length is.front + 1) (length-append is.front (1 ∷ [])))
             (bytes_drop (length is.front + 1) bytes small)
+
+  pub text_agrees : (bytes : List ℕ) → AreBytes bytes → AgreesWith d bytes (text_of d bytes)
+  text_agrees bytes small = record { stood = text_stands bytes; refused = λ n is. text_bad bytes n small is }

@@ -1,13 +1,12 @@
--- What bytes stand for, as a function of them: it says the same as StandFor and IsBadAt, and is for clauses that speak
--- of the entries of a file's bytes.
-use Rattle.std.specs.Prelude.{ℕ, zero, suc, ◌+◌, List, [], ◌∷◌, ◌++◌, length, get_or, drop, Bool, if◌then◌else◌, ◌==◌, nat_lt, nat_le, ◌&&◌}
+-- What bytes stand for, as a function of them, for clauses that speak of the entries of a file's bytes. That it says the
+-- same as StandFor and IsBadAt is a clause of `read_frames`.
+use Rattle.std.specs.Prelude.{◌≡◌, ℕ, zero, suc, ◌+◌, List, [], ◌∷◌, ◌++◌, length, get_or, drop, Bool, if◌then◌else◌, ◌==◌, nat_lt, nat_le, ◌&&◌}
 use Rattle.ann_bytes.specs.LittleEndian.{number_of, field}
 use Rattle.ann_types.specs.declared.entry.Entry.{Entry}
 use Rattle.ann_types.specs.declared.entry.Entry.TheVariants.{Insert, Delete, Begin, End, Replace}
 use Rattle.ann_entry.specs.EntryBytes.{entry_bytes, entries_bytes}
-use Rattle.ann_entry.specs.Kinds.{kind_byte, kind_size}
-use Rattle.ann_entry.proofs.Spelled.{kind_of}
-use Rattle.ann_frame.specs.Text.{size_of}
+use Rattle.ann_entry.specs.Kinds.{kind_byte, kind_size, kind_of}
+use Rattle.ann_frame.specs.Text.{StandFor, IsBadAt, size_of}
 
 -- the entries and the place of the gate behind them, or the number of the first entry that isn't wholly there
 pub data Text : Type 0 where
@@ -51,3 +50,8 @@ frames_text (suc n) d sofar at (gate ∷ tail) =
 
 abbrev pub text_of : ℕ → List ℕ → Text
 text_of d bytes = frames_text (length bytes) d [] 0 bytes
+
+-- the text says what the bytes stand for, and where they are bad
+pub record AgreesWith (d : ℕ) (bytes : List ℕ) (text : Text) : Type 0 where
+  pub stood : (entries : List Entry) (gate : ℕ) → StandFor d bytes entries gate → text ≡ stands entries gate
+  pub refused : (n : ℕ) → IsBadAt d bytes n → text ≡ bad n

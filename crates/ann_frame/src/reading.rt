@@ -3,6 +3,7 @@ ghost use Rattle.std.specs.Prelude.{◌≡◌, ◌⊎◌, ◌+◌, ◌-◌, ◌<
 ghost use Rattle.ann_types.specs.declared.entry.Entry.{Entry};
 ghost use Rattle.ann_bytes.specs.LittleEndian.{field};
 ghost use Rattle.ann_frame.specs.Text.{StandFor, NoEntry, IsBadAt};
+ghost use Rattle.ann_frame.specs.TextOf.{AgreesWith, text_of};
 ghost use Rattle.ann_frame.specs.Found.{HasEntries, HasFrame, IsRefusedFrame, AreRefused};
 
 use crate::entries::Entries;
@@ -41,11 +42,16 @@ pub fn read_frames(
     // The bytes from the gate on stand for the entries.
     ensures stands { IfOk result (λ read. StandFor d (drop gate bytes.now) read.entries (read.gate - gate)) }
     ensures place { IfOk result (λ read. (gate ≤ read.gate) × (read.gate < length bytes.now)) }
+    // The function that says what bytes stand for says the same.
+    ensures agrees { AgreesWith d (drop gate bytes.now) (text_of d (drop gate bytes.now)) }
     // A refusal has its cause.
     ensures refused { IfErr result (AreRefused d (drop gate bytes.now)) }
     // What they stand for is what is read, unless memory runs out.
-    ensures only { (entries : List Entry) (place : ℕ) → StandFor d (drop gate bytes.now) entries place → MatchResult result (λ read. (read.entries ≡ entries) × (read.gate ≡ gate + place)) (λ why. why ≡ FramesRefused.Memory) }
-    ensures only_bad { (entry : ℕ) → IsBadAt d (drop gate bytes.now) entry → MatchResult result (λ read. ⊥) (λ why. (why ≡ FramesRefused.Bad entry) ⊎ (why ≡ FramesRefused.Memory)) }
+    ensures only { (entries : List Entry) (place : ℕ) → StandFor d (drop gate bytes.now) entries place →
+        MatchResult result (λ read. (read.entries ≡ entries) × (read.gate ≡ gate + place))
+        (λ why. why ≡ FramesRefused.Memory) }
+    ensures only_bad { (entry : ℕ) → IsBadAt d (drop gate bytes.now) entry → MatchResult result (λ read. ⊥)
+        (λ why. (why ≡ FramesRefused.Bad entry) ⊎ (why ≡ FramesRefused.Memory)) }
 {
     let mut entries = Entries::new(alloc);
     let mut at = gate;

@@ -21,7 +21,8 @@ const SHUT: u8 = 0;
 /// The most bytes that a frame of 64 entries takes with the gate behind it, where vectors have d components.
 pub fn frame_size(d: u16) -> usize
     ensures size { result ≡ 837 + 64 * d }
-    ensures enough { (entries : List Entry) → HaveComponents d entries → length entries ≤ 64 → length (frame_bytes entries) + 1 ≤ result }
+    ensures enough { (entries : List Entry) → HaveComponents d entries → length entries ≤ 64 →
+        length (frame_bytes entries) + 1 ≤ result }
 {
     LENGTH + MOST * (NAMED + usize::from(d)) + 1
 }

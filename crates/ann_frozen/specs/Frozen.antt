@@ -5,7 +5,7 @@ use Rattle.ann_greedy.specs.Rows.{Rows}
 use Rattle.ann_table.specs.Node.{Node}
 
 -- the index's parameters, and the rows in order of Pid
-pub record Shown : Type 0 where
+pub record FrozenView : Type 0 where
   pub params : Params
   pub nodes : List Node
 

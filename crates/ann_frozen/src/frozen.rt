@@ -21,9 +21,9 @@ pub struct Frozen {
 
 impl Model for Frozen {
     ghost use Rattle.ann_table.specs.Table.{AreNodes};
-    ghost use Rattle.ann_frozen.specs.Frozen.{Shown};
+    ghost use Rattle.ann_frozen.specs.Frozen.{FrozenView};
 
-    ghost Value = { Shown };
+    ghost Value = { FrozenView };
 
     ghost view = { λ f. record { params = f.params; nodes = f.rows.nodes } };
 

@@ -1,6 +1,5 @@
 -- What a prune keeps is settled: none of the kept candidates leaves out a later one.
-use Rattle.std.proofs.Common.{◌≡◌, ℕ, ◌*◌, Bool, true, false, cond, leb, not, List, [], ◌∷◌, ◌++◌, ◌||◌, ◌⊎◌, refl, sym, ap, ◌∙◌, inl, inr, eqb-true, eq-eqb}
-use Rattle.std.specs.List.{list_any}
+use Rattle.std.proofs.Common.{◌≡◌, ℕ, ◌*◌, true, false, cond, leb, List, [], ◌∷◌, ◌++◌, ◌⊎◌, refl, sym, ap, ◌∙◌, inl, inr, eqb-true, eq-eqb}
 use Rattle.std.proofs.lemmas.Bool.{false≢true, and_parts, or_cases}
 use Rattle.ann_types.specs.Order.{has, before, in_order}
 use Rattle.ann_types.specs.Kept.{Rule, covered, takes, keep, kept}

@@ -1,10 +1,12 @@
 -- How making a log begins: the files are read, and nothing is done to them.
-use Rattle.std.proofs.Common.{◌≡◌, ℕ, List, subst}
+use Rattle.std.proofs.Common.{◌≡◌, inl, refl, ℕ, List, subst}
 use Rattle.ann_disk.specs.Image.{Unsynced, IsImage}
-use Rattle.ann_log.specs.Making.{HoldsNothing, IsNothingOr}
+use Rattle.ann_log.specs.Making.{HoldsNothing, IsNothingOr, IsUnmadeBy}
 use Rattle.ann_log.specs.Pairs.{EachPair, LeavePairs, AreUntouched}
-use Rattle.ann_log.specs.Text.{Held}
+use Rattle.ann_log.specs.Text.{Held, IsNoIndex}
 use Rattle.ann_log.specs.declared.files.Files.{Files}
+use Rattle.ann_log.specs.declared.refused.MakeWhy.{MakeWhy}
+use Rattle.ann_log.specs.declared.refused.MakeWhy.TheVariants.{IndexThere, Disk, Memory}
 use Rattle.ann_log.proofs.Nothing.{left_before}
 use Rattle.ann_log.proofs.Pairs.{idle, at_once, joined_pairs, still}
 
@@ -31,3 +33,9 @@ module _ {F : Type 0} (past : F → List Unsynced) (unsynced : F → Unsynced) (
       (subst (λ h. LeavePairs past unsynced mid new (IsNothingOr (unsynced old.first) (unsynced old.second) h)) is
       (subst (λ u. LeavePairs past unsynced mid new (IsNothingOr u (unsynced old.second) other)) same.0.leaves
       (subst (λ v. LeavePairs past unsynced mid new (IsNothingOr (unsynced mid.first) v other)) same.1.leaves (run nothing_then))))
+
+-- what a refusal leaves that comes while they are read
+pub unmade_read : {F : Type 0} (seen : F → List ℕ) (unsynced : F → Unsynced) (past : F → List Unsynced) (old new : Files F) (held : Held) (why : MakeWhy) → AreUntouched seen unsynced past old new → (why ≡ IndexThere → IsNoIndex (seen old.first) (seen old.second) → ⊥) → IsUnmadeBy seen unsynced past held old new why
+unmade_read seen unsynced past old new held IndexThere same there = (there refl, same)
+unmade_read seen unsynced past old new held Disk same there = inl same
+unmade_read seen unsynced past old new held Memory same there = same

@@ -16,7 +16,7 @@ use Rattle.ann_frame.proofs.Agrees.{text_stands}
 use Rattle.ann_frame.proofs.Growing.{frames_grow, stand_at_gate}
 use Rattle.ann_log.specs.LogView.{IsAtRest, IsSound, IsBeforeOrAfter, extended, listed, counted, files_in, choice_of}
 use Rattle.ann_log.specs.Pairs.{LeavePairs}
-use Rattle.ann_log.specs.Storing.{MayHold}
+use Rattle.ann_log.specs.Appended.{MayHold}
 use Rattle.ann_log.specs.Text.{Held, said_of, StandsFor, first_gate}
 use Rattle.ann_log.proofs.Pairs.{OnSide, resting, in_side}
 use Rattle.ann_log.proofs.Standing.{side_text, frames_text, says_same}

@@ -2,7 +2,7 @@
 use Rattle.std.proofs.Common.{◌≡◌, inl, inr, ℕ, ◌+◌, List, [], ◌∷◌, ◌++◌, length, get_or, take, drop, sym, ◌∙◌, ap, arith, append_assoc, length-append, take-append-drop}
 use Rattle.std.proofs.lemmas.List.{take_all, drop_at, drop_all, drop_more, append-nil, take-append-le}
 use Rattle.ann_disk.specs.File.{Torn, overwritten}
-use Rattle.ann_log.specs.Storing.{MayHold}
+use Rattle.ann_log.specs.Appended.{MayHold}
 
 module _ (gate : ℕ) (old frame : List ℕ) (ends : gate + 1 ≡ length old) where
   -- the first write stands behind the old bytes

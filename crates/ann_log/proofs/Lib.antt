@@ -1,13 +1,16 @@
+pub mod Appending
 pub mod AtRest
 pub mod Beginnings
 pub mod Behind
 pub mod Buffers
 pub mod Extending
+pub mod Faults
 pub mod Fronts
 pub mod Gates
 pub mod Nothing
 pub mod Opening
 pub mod Pairs
+pub mod Renewing
 pub mod Results
 pub mod Sizes
 pub mod Standing

@@ -1,16 +1,24 @@
 -- What opening finds and leaves.
-use Rattle.std.proofs.Common.{◌≡◌, ℕ, ◌+◌, List, [], ◌∷◌, ◌++◌, length, take, drop, Some, refl, sym, ap, subst, ◌∙◌, arith, append_assoc, length-append, take-append-drop}
+use Rattle.std.proofs.Common.{◌≡◌, inl, inr, ℕ, ◌+◌, ◌-◌, List, [], ◌∷◌, ◌++◌, length, take, drop, Some, refl, sym, ap, subst, ◌∙◌, arith, append_assoc, length-append, take-append-drop}
 use Rattle.std.proofs.lemmas.List.{take_at, take_all, take-take, length-take-le}
 use Rattle.ann_disk.specs.File.{Cut}
 use Rattle.ann_disk.specs.Image.{Unsynced, IsImage, clean}
+use Rattle.ann_disk.specs.declared.file.LogFile.{Ghosts}
 use Rattle.ann_preamble.specs.Preamble.{Said, preamble_of}
 use Rattle.ann_preamble.specs.declared.choice.Side.{Side}
 use Rattle.ann_preamble.specs.declared.choice.Side.TheVariants.{First, Second}
+use Rattle.ann_frame.specs.TextOf.{text_of}
+use Rattle.ann_frame.proofs.Agrees.{text_stands}
 use Rattle.ann_frame.specs.declared.reading.Frames.{Frames}
 use Rattle.ann_log.specs.Found.{IsFoundIn}
-use Rattle.ann_log.specs.LogView.{IsAtRest, choice_of, on_side, off_side}
+use Rattle.ann_log.specs.LogView.{IsAtRest, choice_of, files_in, on_side, off_side}
 use Rattle.ann_log.specs.Pairs.{ReadAsBefore, MayBeCut}
-use Rattle.ann_log.specs.Text.{holds, first_gate, file_text, log_text}
+use Rattle.ann_log.specs.Text.{holds, first_gate, file_text, log_text, gate_in, upto_gate}
+use Rattle.ann_log.specs.Opened.{AreCut, LeavesHeld, seen_on, seen_off}
+use Rattle.ann_log.specs.Told.{HoldSame}
+use Rattle.ann_log.specs.declared.files.Files.{Files}
+use Rattle.ann_log.specs.declared.refused.OpenWhy.{OpenWhy}
+use Rattle.ann_log.specs.declared.refused.OpenWhy.TheVariants.{Disk}
 use Rattle.ann_log.proofs.Standing.{side_text, says_same, shut_text, begins_with}
 
 module _ (bytes : List ℕ) (s : Said) (frames : Frames) (end : ℕ) (is : IsFoundIn bytes s frames end) where
@@ -92,6 +100,17 @@ module _ (bytes : List ℕ) (s : Said) (frames : Frames) (end : ℕ) (is : IsFou
           take_all_of : (l : List ℕ) → take (length l) l ≡ l
           take_all_of l = take_all (length l) l (omega arith)
 
+  -- its bytes up to the last gate
+  pub upto_is : upto_gate s bytes ≡ take (frames.gate + 1) bytes
+  upto_is =
+      let gate : gate_in (text_of s.fields.d (drop (first_gate s) bytes)) ≡ frames.gate - first_gate s =
+      ap gate_in (text_stands s.fields.d (drop (first_gate s) bytes) frames.entries (frames.gate - first_gate s) is.stands) in
+      let place = is.place in
+      ap (λ (k : ℕ). take k bytes) (omega (arith, gate, place))
+
+  pub upto_size : length (upto_gate s bytes) ≡ frames.gate + 1
+  upto_size = ap length (upto_is ∙ cut_here) ∙ upto_long
+
   pub cut_says : (image : List ℕ) → Cut (frames.gate + 1) bytes image → (preamble_of image ≡ Some s) × (file_text s image ≡ holds s frames.entries)
   cut_says image cut = (image_says image (cut_begins image cut), image_text image (cut_begins image cut))
 
@@ -137,3 +156,26 @@ images_read u v one two are = record { one = one; two = two; first_image = are.0
 pub may_be_cut : (side : Side) (to : ℕ) (first second first' second' one two : List ℕ) → first' ≡ first → second' ≡ second → MayBeCut side to first' second' one two → MayBeCut side to first second one two
 may_be_cut side to first second first' second' one two same_first same_second may =
     subst (λ l. MayBeCut side to first l one two) same_second (subst (λ l. MayBeCut side to l second' one two) same_first may)
+
+-- files that hold what they held, whatever was refused
+pub held_still : {F : Type 0} (D : Ghosts F) (old new : Files F) → HoldSame D old new → (why : OpenWhy) → LeavesHeld D old new why
+held_still D old new same why = record { held = λ no. same; cut = inl same }
+
+-- files of which the log's was cut behind its last gate
+pub are_cut : {F : Type 0} (D : Ghosts F) (old new : Files F) (side : Side) (s : Said) (frames : Frames) (end : ℕ) → choice_of side s (preamble_of (seen_off D side old)) ≡ Some side → IsFoundIn (seen_on D side old) s frames end → MayBeCut side (frames.gate + 1) (D.seen old.first) (D.seen old.second) (D.seen new.first) (D.seen new.second) → AreCut D old new
+are_cut D old new side s frames end is_log is may = record {
+  side = side;
+  s = s;
+  says = is.says;
+  is_log = is_log;
+  cut = subst (λ (k : ℕ). Cut k (seen_on D side old) (seen_on D side new)) (sym (upto_size (seen_on D side old) s frames end is)) may.0;
+  other = may.1;
+}
+
+-- what reads give of the log's file and of the other one
+pub parted_seen : {F : Type 0} (D : Ghosts F) (side : Side) (log other : F) (files : Files F) → files_in side log other ≡ files → (D.seen log ≡ seen_on D side files) × (D.seen other ≡ seen_off D side files)
+parted_seen D First log other files is = (ap (λ f. D.seen f.first) is, ap (λ f. D.seen f.second) is)
+parted_seen D Second log other files is = (ap (λ f. D.seen f.second) is, ap (λ f. D.seen f.first) is)
+
+pub held_cut : {F : Type 0} (D : Ghosts F) (old new : Files F) → AreCut D old new → LeavesHeld D old new Disk
+held_cut D old new cut = record { held = λ no. absurd (no refl); cut = inr cut }

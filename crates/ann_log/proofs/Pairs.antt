@@ -1,14 +1,14 @@
 -- How runs of calls over two files go on.
 use Rattle.std.proofs.Common.{◌≡◌, ℕ, List, [], ◌∷◌, ◌++◌, refl, subst, Result, OnOk, OnErr}
-use Rattle.ann_disk.specs.File.{LeavesOnly}
+use Rattle.ann_disk.specs.File.{LeavesOnly, IsUntouched}
 use Rattle.ann_disk.specs.Image.{Unsynced, IsImage, EachImage, clean}
-use Rattle.ann_disk.specs.declared.file.Failed.{Failed}
+use Rattle.ann_fault.specs.declared.faults.Failed.{Failed}
 use Rattle.ann_disk.proofs.Images.{clean_only}
 use Rattle.ann_disk.proofs.Moments.{started, after_sync, weaker, unchanged}
 use Rattle.ann_preamble.specs.declared.choice.Side.{Side}
 use Rattle.ann_preamble.specs.declared.choice.Side.TheVariants.{First, Second}
 use Rattle.ann_log.specs.LogView.{files_in}
-use Rattle.ann_log.specs.Pairs.{LeaveBoth, InTurn, LeavePairs, AreUntouched}
+use Rattle.ann_log.specs.Pairs.{EachPair, LeaveBoth, InTurn, LeavePairs, AreUntouched}
 use Rattle.ann_log.specs.declared.files.Files.{Files}
 
 -- the log's bytes and the other file's, put in the order of the files
@@ -26,9 +26,9 @@ module _ {F : Type 0} (past : F → List Unsynced) (unsynced : F → Unsynced) w
   resting file bytes rest = idle file (λ image. image ≡ bytes) (λ image is. clean_only bytes image (subst (λ u. IsImage u image) rest is))
 
   -- a sync, whatever it answers
-  pub by_sync : (old new : F) (bytes : List ℕ) (r : Result (Unit {0}) Failed) → OnOk r (unsynced new ≡ clean bytes) → OnOk r (past new ≡ past old ++ unsynced old ∷ []) → OnErr r ((unsynced new ≡ unsynced old) × (past new ≡ past old)) → IsImage (unsynced old) bytes → LeavesOnly past unsynced old new (IsImage (unsynced old))
-  by_sync old new bytes r images history failed here =
-      after_sync past unsynced old old new (IsImage (unsynced old)) bytes r (idle old (IsImage (unsynced old)) (λ image is. is)) images history failed here
+  pub by_sync : (seen : F → List ℕ) (old new : F) (bytes : List ℕ) (r : Result (Unit {0}) Failed) → OnOk r (unsynced new ≡ clean bytes) → OnOk r (past new ≡ past old ++ unsynced old ∷ []) → OnErr r (IsUntouched seen unsynced past old new) → IsImage (unsynced old) bytes → LeavesOnly past unsynced old new (IsImage (unsynced old))
+  by_sync seen old new bytes r images history failed here =
+      after_sync past unsynced seen old old new (IsImage (unsynced old)) bytes r (idle old (IsImage (unsynced old)) (λ image is. is)) images history failed here
 
   -- the moments of the one file with those of the other
   pub at_once : (old new : Files F) (A B : List ℕ → Type 0) (P : List ℕ → List ℕ → Type 0) → ((a b : List ℕ) → A a → B b → P a b) → LeavesOnly past unsynced old.first new.first A → LeavesOnly past unsynced old.second new.second B → LeavePairs past unsynced old new P
@@ -54,6 +54,14 @@ module _ {F : Type 0} (past : F → List Unsynced) (unsynced : F → Unsynced) w
 
   pub weaker_pairs : (old new : Files F) (P Q : List ℕ → List ℕ → Type 0) → ((a b : List ℕ) → P a b → Q a b) → LeavePairs past unsynced old new P → LeavePairs past unsynced old new Q
   weaker_pairs old new P Q less run = record { stops = run.stops; turns = weaker_turns run.stops old new P Q less run.turns }
+
+  -- the last state
+  last_turn : (stops : List (Files F)) (old new : Files F) (P : List ℕ → List ℕ → Type 0) → InTurn past unsynced stops old new P → EachPair unsynced P new
+  last_turn [] old new P run = λ first is_first. (run.now first is_first).now
+  last_turn (stop ∷ stops) old new P run = last_turn stops stop new P run.1
+
+  pub last_pair : (old new : Files F) (P : List ℕ → List ℕ → Type 0) → LeavePairs past unsynced old new P → EachPair unsynced P new
+  last_pair old new P run = last_turn run.stops old new P run.turns
 
   -- one run behind another
   joined_turns : (stops more : List (Files F)) (old mid new : Files F) (P : List ℕ → List ℕ → Type 0) → InTurn past unsynced stops old mid P → InTurn past unsynced more mid new P → InTurn past unsynced (stops ++ mid ∷ more) old new P

@@ -6,7 +6,7 @@ use Rattle.ann_types.specs.declared.entry.Entry.{Entry}
 use Rattle.ann_types.specs.Codes.{Book}
 use Rattle.ann_types.specs.declared.params.Params.{Params}
 use Rattle.ann_bytes.specs.LittleEndian.{bytes_of}
-use Rattle.ann_pq.specs.Codebook.{Shown}
+use Rattle.ann_pq.specs.Codebook.{CodebookView}
 use Rattle.ann_pq.specs.Format.{fault, codebook, IsCodebook}
 use Rattle.ann_preamble.specs.Preamble.{Said, magic_two, preamble_of, book_place}
 use Rattle.ann_preamble.specs.Written.{params_fields, base_fields, preamble_bytes, IsReadAgain}
@@ -20,7 +20,7 @@ use Rattle.ann_log.proofs.Tails.{are_frames}
 use Rattle.ann_disk.specs.Image.{Unsynced}
 
 -- a codebook that was read is the one of its bytes
-pub book_again : (p : Params) (book : Shown) → IsCodebook book → (book.d ≡ p.d) × (book.m ≡ p.m) → codebook p.d p.m book.bytes ≡ book
+pub book_again : (p : Params) (book : CodebookView) → IsCodebook book → (book.d ≡ p.d) × (book.m ≡ p.m) → codebook p.d p.m book.bytes ≡ book
 book_again p book is (d_same, m_same) =
     ap (λ (d : ℕ). codebook d p.m book.bytes) (sym d_same)
     ∙ ap (λ (m : ℕ). codebook book.d m book.bytes) (sym m_same)
@@ -70,7 +70,7 @@ module _ (p : Params) (generation : ℕ) (base : Base) (book : List ℕ) where
   pub front_long : (head : List ℕ) → head ≡ preamble_bytes 0 p generation base book 0 → length head - 1 ≡ 61 + length book
   front_long head is = let long = ap length (is ∙ with_gate 0 0) in omega (arith, long, length-append book (0 ∷ []))
 
-module _ (p : Params) (generation : ℕ) (base : Base) (book : Shown) (said : IsSaid (said_in p book base generation)) (some : 1 ≤ generation) (again : IsReadAgain p generation base book.bytes) (same : codebook p.d p.m book.bytes ≡ book) where
+module _ (p : Params) (generation : ℕ) (base : Base) (book : CodebookView) (said : IsSaid (said_in p book base generation)) (some : 1 ≤ generation) (again : IsReadAgain p generation base book.bytes) (same : codebook p.d p.m book.bytes ≡ book) where
   abbrev s : Said
   s = said_in p book base generation
 
@@ -81,7 +81,7 @@ module _ (p : Params) (generation : ℕ) (base : Base) (book : Shown) (said : Is
   says_with gate rest =
       ap (λ (l : List ℕ). preamble_of (l ++ rest)) (sym (with_gate p generation base book.bytes 1 gate))
       ∙ again gate rest
-      ∙ ap (λ (b : Shown). Some (record { fields = s.fields; book = b })) same
+      ∙ ap (λ (b : CodebookView). Some (record { fields = s.fields; book = b })) same
 
   says : (frames : List ℕ) → preamble_of (front ++ frames ++ 0 ∷ []) ≡ Some s
   says [] =

@@ -5,12 +5,14 @@ use Rattle.ann_types.specs.declared.params.Params.{Params}
 use Rattle.ann_types.specs.declared.entry.Entry.{Entry}
 use Rattle.ann_disk.specs.Image.{Unsynced, IsFree}
 use Rattle.ann_disk.specs.File.{BeginsAnImage}
-use Rattle.ann_frame.specs.Frames.{IsFrame, AreFrames, frames_bytes, entries_of}
-use Rattle.ann_pq.specs.Codebook.{Shown}
+use Rattle.ann_frame.specs.Frames.{IsFrame, AreFrames, HaveComponents, frame_bytes, frames_bytes, entries_of}
+use Rattle.ann_pq.specs.Codebook.{CodebookView}
 use Rattle.ann_preamble.specs.declared.base.Base.{Base}
 use Rattle.ann_preamble.specs.Preamble.{Said, preamble_of}
 use Rattle.ann_preamble.specs.Written.{preamble_bytes}
-use Rattle.ann_log.specs.Text.{Held, first_gate}
+use Rattle.ann_disk.specs.declared.file.LogFile.{Ghosts}
+use Rattle.ann_log.specs.Text.{Held, first_gate, said_of}
+use Rattle.ann_log.specs.Told.{IsSynced, Leaves}
 
 -- the bytes have no preamble
 abbrev pub IsUnmade : List ℕ → Type 0
@@ -101,7 +103,7 @@ abbrev pub IsFrontOrText : Unsynced → Said → List Entry → List ℕ → Typ
 IsFrontOrText before s entries bytes = BeginsAnImage before bytes ⊎ IsUnmadeOrText s entries bytes
 
 -- what a log holds with these
-abbrev pub held_in : Params → Shown → Base → List Entry → Held
+abbrev pub held_in : Params → CodebookView → Base → List Entry → Held
 held_in params book base entries = record { params = params; book = book; base = base; entries = entries }
 
 -- The bytes of a file that was written anew: a preamble with an open made byte, the frames of the entries, each behind an
@@ -113,3 +115,70 @@ pub record IsWritten (held : Held) (generation : ℕ) (bytes : List ℕ) : Type 
   pub rest : List ℕ
   pub gates : frames ++ 0 ∷ [] ≡ first ∷ rest
   pub spelled : bytes ≡ preamble_bytes 1 held.params generation held.base held.book.bytes first ++ rest
+
+-- ---- the steps
+
+-- the fields of a head, the entries behind it, and room for a frame
+pub record CanFill (bytes : List ℕ) (tail : List Entry) (d : ℕ) (frame : List ℕ) : Type 0 where
+  pub head : IsHead bytes
+  pub each : HaveComponents d tail
+  pub room : length frame ≡ 837 + 64 * d
+
+module _ {F : Type 0} (D : Ghosts F) where
+  -- the file is a made byte that isn't open, and that is on the disk
+  pub record IsCleared (file : F) : Type 0 where
+    pub cleared : D.tells → D.seen file ≡ 0 ∷ []
+    pub rest : IsSynced D file
+
+  -- a frame of these entries can be put behind the file's last byte, a gate, while the made byte stays shut
+  pub record CanPut (gate : ℕ) (entries : List Entry) (d : ℕ) (frame : List ℕ) (file : F) : Type 0 where
+    pub place : D.tells → length (D.seen file) ≡ gate + 1
+    pub behind : (1 ≤ gate) × (gate + 1 < 2 ^ 64)
+    pub shut : D.tells → StaysShut (D.unsynced file)
+    pub few : length entries ≤ 64
+    pub each : HaveComponents d entries
+    pub room : length frame ≡ 837 + 64 * d
+
+  -- it stands there, behind an open gate, and the gate behind it is at the next place
+  pub record HasPut (gate : ℕ) (entries : List Entry) (old new : F) (next : ℕ) : Type 0 where
+    pub file : D.tells → D.seen new ≡ take gate (D.seen old) ++ 1 ∷ frame_bytes entries ++ 0 ∷ []
+    pub place : next ≡ gate + (1 + length (frame_bytes entries))
+    pub end : next + 1 < 2 ^ 64
+
+  -- nothing was synced, and the made byte stays shut
+  pub record IsStillShut (old new : F) : Type 0 where
+    pub past : D.tells → D.past new ≡ D.past old
+    pub shut : D.tells → StaysShut (D.unsynced new)
+
+  -- a tail can be put behind the file's last byte, a gate 0
+  pub record CanPutTail (gate : ℕ) (tail : List Entry) (d : ℕ) (frame : List ℕ) (file : F) : Type 0 where
+    pub last : D.tells → D.seen file ≡ take gate (D.seen file) ++ 0 ∷ []
+    pub behind : (1 ≤ gate) × (gate + 1 < 2 ^ 64)
+    pub shut : D.tells → StaysShut (D.unsynced file)
+    pub each : HaveComponents d tail
+    pub room : length frame ≡ 837 + 64 * d
+
+  -- the file is so many bytes of this head and the frames of a tail, all on the disk, and its last gate stands at the place
+  pub record IsFilled (d : ℕ) (start : ℕ) (head : List ℕ) (tail : List Entry) (file : F) (gate : ℕ) : Type 0 where
+    pub held : HoldsTail D.tells d start head tail gate (D.seen file)
+    pub rest : IsSynced D file
+
+  -- what a call leaves that writes a file anew with this head and tail
+  pub record LeavesWhole (d : ℕ) (head : List ℕ) (tail : List Entry) (old new : F) : Type 0 where
+    -- a crash meanwhile leaves the front of what it might have left before, no preamble, or all of this
+    pub during : Leaves D old new (IsFrontOrWhole (D.unsynced old) d head tail)
+    -- where a read gave no preamble it gives none, or all of this
+    pub read : D.tells → IsUnmade (D.seen old) → IsUnmadeOrWhole d head tail (D.seen new)
+
+  -- the file was written anew with what is held, and its last gate stands at the place
+  pub record HasWritten (held : Held) (generation : ℕ) (file : F) (gate : ℕ) : Type 0 where
+    pub text : HoldsText D.tells (said_of held generation) held.entries gate (D.seen file)
+    pub written : D.tells → IsWritten held generation (D.seen file)
+    pub rest : IsSynced D file
+
+  -- what a call leaves that writes it
+  pub record LeavesText (held : Held) (generation : ℕ) (old new : F) : Type 0 where
+    -- a crash meanwhile leaves the front of what it might have left before, no preamble, or this text
+    pub during : Leaves D old new (IsFrontOrText (D.unsynced old) (said_of held generation) held.entries)
+    -- where a read gave no preamble it gives none, or this text
+    pub read : D.tells → IsUnmade (D.seen old) → IsUnmadeOrText (said_of held generation) held.entries (D.seen new)

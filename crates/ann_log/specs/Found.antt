@@ -6,9 +6,11 @@ use Rattle.ann_frame.specs.Text.{StandFor}
 use Rattle.ann_frame.specs.declared.reading.Frames.{Frames}
 use Rattle.ann_frame.specs.declared.frames_refused.FramesRefused.{FramesRefused}
 use Rattle.ann_frame.specs.declared.frames_refused.FramesRefused.TheVariants as framed
+use Rattle.ann_disk.specs.declared.file.LogFile.{Ghosts}
 use Rattle.ann_log.specs.LogView.{IsSaid, choice_of, on_side, off_side}
-use Rattle.ann_log.specs.Text.{Held, LogText, no_index, bad_log, first_gate}
-use Rattle.ann_log.specs.declared.reading.Found.{Found}
+use Rattle.ann_log.specs.Text.{Held, LogText, no_index, bad_log, first_gate, log_text}
+use Rattle.ann_log.specs.declared.files.Files.{Files}
+use Rattle.ann_log.specs.declared.read.Found.{Found}
 use Rattle.ann_log.specs.declared.refused.OpenWhy.{OpenWhy}
 use Rattle.ann_log.specs.declared.refused.OpenWhy.TheVariants.{NoIndex, BadLog, Disk, Memory}
 
@@ -53,3 +55,13 @@ refusal_of position framed.Memory = Memory
 abbrev pub IsInReach : ℕ → FramesRefused → Type 0
 IsInReach position (framed.Bad entry) = position + entry < 2 ^ 64
 IsInReach position framed.Memory = Unit {0}
+
+module _ {F : Type 0} (D : Ghosts F) where
+  -- what was found in two files
+  pub record HasFound (files : Files F) (it : Found) : Type 0 where
+    pub found : D.tells → IsFound (D.seen files.first) (D.seen files.second) it
+    pub usable : IsUsable it
+
+  -- the refusal is what the files stand for, or a fault or want of memory
+  abbrev pub IsRefusedFor : Files F → OpenWhy → Type 0
+  IsRefusedFor files why = D.tells → IsRefused (log_text (D.seen files.first) (D.seen files.second)) why

@@ -1,9 +1,12 @@
 pub mod Anew
+pub mod Appended
 pub mod Causes
 pub mod Found
+pub mod Inspected
 pub mod LogView
 pub mod Making
+pub mod Opened
 pub mod Pairs
 pub mod Renewed
-pub mod Storing
 pub mod Text
+pub mod Told

@@ -2,7 +2,7 @@
 use Rattle.std.specs.Prelude.{◌≡◌, ◌≢◌, ◌⊎◌, ℕ, ◌+◌, ◌*◌, ◌<◌, ◌≤◌, ◌^◌, Bool, true, false, List, [], ◌∷◌, ◌++◌, length, take, drop, Option, Some, None}
 use Rattle.ann_types.specs.declared.params.Params.{Params}
 use Rattle.ann_types.specs.declared.entry.Entry.{Entry}
-use Rattle.ann_pq.specs.Codebook.{Shown}
+use Rattle.ann_pq.specs.Codebook.{CodebookView}
 use Rattle.ann_pq.specs.Format.{fault}
 use Rattle.ann_disk.specs.Image.{Unsynced, clean}
 use Rattle.ann_preamble.specs.Base.{is_base}
@@ -17,17 +17,18 @@ use Rattle.ann_log.specs.Text.{Held, first_gate, StandsFor}
 use Rattle.ann_log.specs.declared.files.Files.{Files}
 use Rattle.ann_log.specs.declared.inspect.Inspected.{Inspected}
 
--- the file that is the log, the other one, and which of the two files the log is; what the log holds, its generation, and
--- whether a call has failed
+-- The file that is the log, the other one, and which of the two files the log is; what the log holds, and its generation;
+-- how many entries there are, also where the files don't tell them; and whether a call has failed.
 pub record LogView (F : Type 0) : Type 0 where
   pub log : F
   pub other : F
   pub side : Side
   pub params : Params
-  pub book : Shown
+  pub book : CodebookView
   pub base : Base
   pub generation : ℕ
   pub list : List Entry
+  pub count : ℕ
   pub is_closed : Bool
 
 -- the files of which the one on this side is the log

@@ -1,6 +1,6 @@
 -- What a crash leaves of two files.
 use Rattle.std.specs.Prelude.{◌≡◌, ℕ, List, [], ◌∷◌}
-use Rattle.ann_disk.specs.File.{LeavesOnly, Cut}
+use Rattle.ann_disk.specs.File.{LeavesOnly, Cut, IsUntouched}
 use Rattle.ann_disk.specs.Image.{Unsynced, IsImage, EachImage}
 use Rattle.ann_preamble.specs.declared.choice.Side.{Side}
 use Rattle.ann_log.specs.LogView.{on_side, off_side}
@@ -45,11 +45,6 @@ MayBeCut side to first second one two = Cut to (on_side side first second) (on_s
 abbrev pub AreImages : Unsynced → Unsynced → List ℕ → List ℕ → Type 0
 AreImages u v first second = IsImage u first × IsImage v second
 
--- a call neither changed what a read gives, nor what a crash may leave
-pub record IsUntouched {F : Type 0} (seen : F → List ℕ) (unsynced : F → Unsynced) (past : F → List Unsynced) (old new : F) : Type 0 where
-  pub reads : seen new ≡ seen old
-  pub leaves : unsynced new ≡ unsynced old
-  pub clock : past new ≡ past old
-
+-- no call changed what a read gives, or what a crash may leave
 abbrev pub AreUntouched : {F : Type 0} → (F → List ℕ) → (F → Unsynced) → (F → List Unsynced) → Files F → Files F → Type 0
 AreUntouched seen unsynced past old new = IsUntouched seen unsynced past old.first new.first × IsUntouched seen unsynced past old.second new.second

@@ -1,8 +1,8 @@
 -- What the two files of a log stand for.
-use Rattle.std.specs.Prelude.{◌≡◌, ℕ, ◌+◌, List, drop, Option, Some, None}
+use Rattle.std.specs.Prelude.{◌≡◌, ℕ, ◌+◌, List, take, drop, Option, Some, None}
 use Rattle.ann_types.specs.declared.params.Params.{Params}
 use Rattle.ann_types.specs.declared.entry.Entry.{Entry}
-use Rattle.ann_pq.specs.Codebook.{Shown}
+use Rattle.ann_pq.specs.Codebook.{CodebookView}
 use Rattle.ann_preamble.specs.Preamble.{Said, fields_of, gate_place, preamble_of}
 use Rattle.ann_preamble.specs.Choice.{chosen}
 use Rattle.ann_preamble.specs.declared.base.Base.{Base}
@@ -29,6 +29,15 @@ first_gate s = gate_place s.fields.generation s.fields.d
 abbrev pub file_text : Said → List ℕ → LogText
 file_text s bytes = behind s (framed.text_of s.fields.d (drop (first_gate s) bytes))
 
+-- the place of the last gate, counted from the first
+abbrev pub gate_in : framed.Text → ℕ
+gate_in (framed.stands entries gate) = gate
+gate_in (framed.bad n) = 0
+
+-- the bytes of such a file up to its last gate, which isn't open
+abbrev pub upto_gate : Said → List ℕ → List ℕ
+upto_gate s bytes = take (first_gate s + gate_in (framed.text_of s.fields.d (drop (first_gate s) bytes)) + 1) bytes
+
 abbrev pub text_with : Option Said → List ℕ → LogText
 text_with None bytes = no_index
 text_with (Some s) bytes = file_text s bytes
@@ -45,12 +54,12 @@ log_text first second = text_on (chosen (preamble_of first) (preamble_of second)
 -- what a log holds
 pub record Held : Type 0 where
   pub params : Params
-  pub book : Shown
+  pub book : CodebookView
   pub base : Base
   pub entries : List Entry
 
 -- what a preamble says with these
-abbrev pub said_in : Params → Shown → Base → ℕ → Said
+abbrev pub said_in : Params → CodebookView → Base → ℕ → Said
 said_in params book base generation = record { fields = fields_of params base generation; book = book }
 
 abbrev pub said_of : Held → ℕ → Said
@@ -58,10 +67,6 @@ said_of held generation = said_in held.params held.book held.base generation
 
 abbrev pub IsNoIndex : List ℕ → List ℕ → Type 0
 IsNoIndex first second = log_text first second ≡ no_index
-
--- the entry at this position is the first that isn't wholly there
-abbrev pub IsBadLog : ℕ → List ℕ → List ℕ → Type 0
-IsBadLog position first second = log_text first second ≡ bad_log position
 
 -- the files stand for what is held, at this generation
 abbrev pub StandsAt : ℕ → Held → List ℕ → List ℕ → Type 0

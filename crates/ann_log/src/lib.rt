@@ -6,21 +6,21 @@
 //! specs/Pairs.antt. `append` and `renew` take no memory.
 #![tactic(auto)]
 
-mod anew;
+mod append;
 mod files;
 mod inspect;
-mod log_type;
+mod log;
 mod make;
 mod open;
-mod reading;
+mod read;
 mod refused;
 mod renew;
 mod room;
-mod storing;
+mod write;
 
 pub use ann_frame::Entries;
 pub use ann_preamble::Base;
 pub use files::Files;
 pub use inspect::{Inspected, inspect_log};
-pub use log_type::Log;
+pub use log::Log;
 pub use refused::{Disk, MakeRefused, MakeWhy, OpenRefused, OpenWhy};

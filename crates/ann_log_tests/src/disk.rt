@@ -52,19 +52,23 @@ fn goes_well(file: &mut MemoryFile, call: &Call) -> bool {
     }
 }
 
-// A call, whether it goes well, the bytes that the file then has, and the spread at a place.
-type Row = (Call, bool, &'static [u8], usize, Spread);
+// What is shown, a call, whether it goes well, the bytes that the file then has, and the spread at a place.
+type Row = (&'static str, Call, bool, &'static [u8], usize, Spread);
 
-fn is_answered(file: &mut MemoryFile, (call, is_ok, bytes, place, wanted): &Row) -> bool {
+fn is_answered(file: &mut MemoryFile, (_, call, is_ok, bytes, place, wanted): &Row) -> bool {
     goes_well(file, call) == *is_ok && is_so(file, bytes, *place, *wanted)
 }
 
 // The first of these calls, on a file of the bytes 1 to 4 of which this call fails, that is answered otherwise.
-fn wrong_call(alloc: Global, failing: u64, rows: &[Row]) -> Result<Option<usize>, AllocError> {
+fn wrong_call(
+    alloc: Global,
+    failing: u64,
+    rows: &[Row],
+) -> Result<Option<&'static str>, AllocError> {
     let mut file = MemoryFile::new(alloc, &[1, 2, 3, 4], &[failing])?;
-    for (number, row) in rows.iter().enumerate() {
+    for row in rows {
         if !is_answered(&mut file, row) {
-            return Ok(Some(number));
+            return Ok(Some(row.0));
         }
     }
     Ok(None)
@@ -72,20 +76,70 @@ fn wrong_call(alloc: Global, failing: u64, rows: &[Row]) -> Result<Option<usize>
 
 // What is written is in doubt until it is synced, and so is the end.
 const TORN: &[Row] = &[
-    (Call::Nothing, true, &[1, 2, 3, 4], 1, (4, 4, 1)),
-    (Call::Write(1, &[9]), true, &[1, 9, 3, 4], 1, (4, 4, 256)),
-    (Call::Nothing, true, &[1, 9, 3, 4], 0, (4, 4, 1)),
-    (Call::Nothing, true, &[1, 9, 3, 4], 2, (4, 4, 1)),
-    (Call::Sync, true, &[1, 9, 3, 4], 1, (4, 4, 1)),
     (
+        "a new file",
+        Call::Nothing,
+        true,
+        &[1, 2, 3, 4],
+        1,
+        (4, 4, 1),
+    ),
+    (
+        "a byte is written",
+        Call::Write(1, &[9]),
+        true,
+        &[1, 9, 3, 4],
+        1,
+        (4, 4, 256),
+    ),
+    (
+        "the byte before it stays",
+        Call::Nothing,
+        true,
+        &[1, 9, 3, 4],
+        0,
+        (4, 4, 1),
+    ),
+    (
+        "the byte behind it stays",
+        Call::Nothing,
+        true,
+        &[1, 9, 3, 4],
+        2,
+        (4, 4, 1),
+    ),
+    (
+        "the write is synced",
+        Call::Sync,
+        true,
+        &[1, 9, 3, 4],
+        1,
+        (4, 4, 1),
+    ),
+    (
+        "two bytes are written behind the end",
         Call::Write(4, &[5, 6]),
         true,
         &[1, 9, 3, 4, 5, 6],
         5,
         (4, 6, 256),
     ),
-    (Call::Sync, true, &[1, 9, 3, 4, 5, 6], 5, (6, 6, 1)),
-    (Call::Cut(3), true, &[1, 9, 3], 4, (3, 6, 1)),
+    (
+        "they are synced",
+        Call::Sync,
+        true,
+        &[1, 9, 3, 4, 5, 6],
+        5,
+        (6, 6, 1),
+    ),
+    (
+        "the file is cut",
+        Call::Cut(3),
+        true,
+        &[1, 9, 3],
+        4,
+        (3, 6, 1),
+    ),
 ];
 
 #[test]
@@ -104,6 +158,7 @@ fn length<F: LogFile>(file: &mut F) -> Result<u64, Failed> {
 
 // A failing write writes its first half, and its whole range is in doubt.
 const FAILING_WRITE: &[Row] = &[(
+    "a write fails",
     Call::Write(1, &[7, 8]),
     false,
     &[1, 7, 3, 4],
@@ -112,12 +167,26 @@ const FAILING_WRITE: &[Row] = &[(
 )];
 
 // A failing cut cuts half, and any end is in doubt.
-const FAILING_CUT: &[Row] = &[(Call::Cut(0), false, &[1, 2], 0, (0, 4, 1))];
+const FAILING_CUT: &[Row] = &[("a cut fails", Call::Cut(0), false, &[1, 2], 0, (0, 4, 1))];
 
 // A failing sync leaves all in doubt.
 const FAILING_SYNC: &[Row] = &[
-    (Call::Write(1, &[9]), true, &[1, 9, 3, 4], 1, (4, 4, 256)),
-    (Call::Sync, false, &[1, 9, 3, 4], 1, (4, 4, 256)),
+    (
+        "a byte is written",
+        Call::Write(1, &[9]),
+        true,
+        &[1, 9, 3, 4],
+        1,
+        (4, 4, 256),
+    ),
+    (
+        "the sync fails",
+        Call::Sync,
+        false,
+        &[1, 9, 3, 4],
+        1,
+        (4, 4, 256),
+    ),
 ];
 
 #[test]

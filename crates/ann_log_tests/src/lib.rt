@@ -4,6 +4,20 @@
 #![tactic(auto)]
 
 #[cfg(test)]
+mod appending;
+#[cfg(test)]
 mod disk;
 #[cfg(test)]
-mod log;
+mod frames;
+#[cfg(test)]
+mod inspecting;
+#[cfg(test)]
+mod making;
+#[cfg(test)]
+mod opening;
+#[cfg(test)]
+mod preambles;
+#[cfg(test)]
+mod renewing;
+#[cfg(test)]
+mod texts;

@@ -1,9 +1,9 @@
 -- Items in order.
-use Rattle.std.proofs.Common.{◌≡◌, ℕ, zero, suc, ◌+◌, ◌-◌, ◌<◌, ◌≤◌, Bool, true, false, cond, eqb, ltb, not, List, [], ◌∷◌, ◌++◌, refl, sym, ap, subst, ◌∙◌, arith, length, take, drop, get_or, set, ◌⊎◌, inl, inr, eqb-true, eq-eqb, ltb-true, ltb-false, lt-ltb}
+use Rattle.std.proofs.Common.{◌≡◌, ℕ, zero, suc, ◌+◌, ◌-◌, ◌<◌, ◌≤◌, true, false, cond, eqb, ltb, List, [], ◌∷◌, ◌++◌, refl, sym, ap, subst, ◌∙◌, arith, length, take, drop, get_or, set, ◌⊎◌, inl, inr, eqb-true, eq-eqb, ltb-true, ltb-false, lt-ltb}
 use Rattle.std.specs.Prelude.{insert}
 use Rattle.std.proofs.lemmas.List.{take-append-drop, take_all, take-append-le, get_or_default, set_split, drop_more}
 use Rattle.std.specs.List.Sorted.{IsPartitionedBy}
-use Rattle.std.proofs.lemmas.Bool.{false≢true, eqb-false, or_cases, and_parts, or_left, or_right, and_from, false_from_ne_true, both_ways, cond-false, cond-true}
+use Rattle.std.proofs.lemmas.Bool.{eqb-false, or_cases, and_parts, or_left, or_right, and_from, false_from_ne_true, both_ways, cond-false, cond-true}
 use Rattle.ann_pool.specs.declared.item.Item.{Item}
 use Rattle.ann_pool.specs.Pool.{item_before, IsBehind, IsInOrder, IsSameWhereThere, IsPlaceOf, offered, pooled, marked}
 

@@ -1,10 +1,9 @@
 -- Numbers in their places.
 use Rattle.std.proofs.Common.{◌≡◌, ℕ, zero, suc, ◌+◌, ◌*◌, ◌/◌, ◌%◌, ◌<◌, ◌≤◌, Bool, true, false, cond, eqb, List, [], ◌∷◌, refl, sym, ap, ◌∙◌, subst, arith, length, set, get_or, ◌⊎◌, inl, inr, eqb-true, eq-eqb}
 use Rattle.std.specs.Prelude.{replicate}
-use Rattle.std.specs.List.{AllByRecursion}
 use Rattle.std.proofs.lemmas.Bool.{or_cases, or_left, or_right, ne_eqb}
 use Rattle.ann_types.specs.Order.{has}
-use Rattle.ann_pool.specs.Places.{tag_of, number_at, numbers_from, numbers_in, AreTagged}
+use Rattle.ann_pool.specs.Places.{tag_of, number_at, numbers_from, AreTagged}
 
 -- ---- tags
 

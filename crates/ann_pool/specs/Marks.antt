@@ -1,5 +1,5 @@
 -- Marks at the front of a pool's items.
-use Rattle.std.specs.Prelude.{◌≡◌, ℕ, ◌≤◌, ◌<◌, true, false, List, length, take, get_or}
+use Rattle.std.specs.Prelude.{◌≡◌, ℕ, ◌<◌, true, false, List, length, take, get_or}
 use Rattle.std.specs.List.{AllByRecursion}
 use Rattle.ann_pool.specs.declared.item.Item.{Item}
 

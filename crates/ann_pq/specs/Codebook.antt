@@ -21,10 +21,6 @@ pub record CodebookView : Type 0 where
   pub bytes : List ℕ
   pub book : Book
 
--- the same by its earlier name
-abbrev pub Shown : Type 0
-Shown = CodebookView
-
 -- a part of a vector
 abbrev pub part_of : ℕ → List ℕ → ℕ → List ℕ
 part_of width vector part = take width (drop (part * width) vector)

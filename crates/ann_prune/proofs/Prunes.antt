@@ -9,7 +9,7 @@ use Rattle.std.proofs.lemmas.List.Elements.{filter-append, All-cons, All-head, A
 use Rattle.std.proofs.Math.Seq.{take-suc-set, take-suc}
 use Rattle.std.proofs.lemmas.List.{drop_more, length_push}
 use Rattle.std.proofs.lemmas.List.Sorted.{IsNonDecreasingBy-drop, IsPermutation-map, list_any-IsPermutation}
-use Rattle.std.proofs.lemmas.Bool.{false≢true, or_cases, or_right, or_left, eqb-false, cond-false, leb-false, false_from_ne_true, cases_eq, ne_eqb}
+use Rattle.std.proofs.lemmas.Bool.{false≢true, or_cases, or_right, or_left, eqb-false, cond-false, leb-false, false_from_ne_true}
 use Rattle.ann_types.specs.Order.{before, in_order, has, ascending}
 use Rattle.ann_types.specs.Kept.{Rule, covered, takes, keep}
 use Rattle.ann_types.proofs.Ordered.{IsAfter, IsRising, before_from, has_here, has_later, has_cases, rising_in_order, has_in_order, before-trans, before-irreflexive, has_append, not_in_rest, rising_unique}

@@ -24,6 +24,10 @@ pub record IsNew (rule : Rule) (apart : ℕ → ℕ → ℕ) (p newer : ℕ) (ke
 abbrev pub IsRepeated : List ℕ → ℕ → Type 0
 IsRepeated rows at = (0 < at) × (get_or rows (at - 1) 0 ≡ get_or rows at 0)
 
+-- the answer to whether it is
+abbrev pub TellsRepeated : List ℕ → ℕ → Bool → Type 0
+TellsRepeated rows at told = (told ≡ true → IsRepeated rows at) × (told ≡ false → IsRepeated rows at → ⊥)
+
 -- the kept rows after one more candidate was tried
 abbrev pub with_tried : Rule → (ℕ → ℕ → ℕ) → ℕ → List ℕ → ℕ → List ℕ
 with_tried rule apart p kept c = if takes rule apart p kept c then kept ++ c ∷ [] else kept

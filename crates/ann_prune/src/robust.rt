@@ -1,11 +1,11 @@
-ghost use Rattle.std.specs.Prelude.{◌≡◌, ◌≤◌, ◌<◌, ◌+◌, ◌++◌, ◌∷◌, ◌^◌, ℕ, [], true, false, length, map, All, eqb};
+ghost use Rattle.std.specs.Prelude.{◌≡◌, ◌<◌, ◌++◌, ◌∷◌, ◌^◌, [], length, map, All, eqb};
 ghost use Rattle.std.specs.List.{IsDistinct};
 ghost use Rattle.ann_types.specs.Order.{in_order, ascending};
 ghost use Rattle.ann_types.specs.Kept.{rule_of, covered, keep};
 ghost use Rattle.std.specs.List.Sorted.{IsPermutation, IsNonDecreasingBy};
 ghost use Rattle.ann_prune.specs.Rows.{row_of, key_of, IsMeasured, IsCandidate, AreCandidates};
 ghost use Rattle.ann_prune.specs.Gathered.{AreRows, IsPruned};
-ghost use Rattle.ann_prune.specs.Newer.{AreSettled, AreKept, IsNew, IsNext, IsRepeated, fresh_of, with_tried};
+ghost use Rattle.ann_prune.specs.Newer.{AreSettled, AreKept, IsNew, IsNext, TellsRepeated, fresh_of, with_tried};
 
 use crate::candidates::{Candidate, Candidates};
 use crate::metric::Metric;
@@ -123,8 +123,7 @@ fn try_keep<M: Metric>(
 /// Whether the candidate before has the same row.
 fn is_repeated(items: &[Candidate], at: usize) -> bool
     requires { at < length items.now }
-    ensures again { result ≡ true → IsRepeated (map row_of items.now) at }
-    ensures first { result ≡ false → (IsRepeated (map row_of items.now) at → ⊥) }
+    ensures { TellsRepeated (map row_of items.now) at result }
 {
     at > 0 && items[at - 1].row == items[at].row
 }

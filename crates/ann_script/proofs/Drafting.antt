@@ -13,27 +13,27 @@ use Rattle.ann_script.proofs.Lines.{lines_said-first, lines-one, said_on}
 regroup : (line bytes rest : List ℕ) → line ++ ((bytes ++ 10 ∷ []) ++ rest) ≡ (line ++ bytes) ++ 10 ∷ rest
 regroup line bytes rest = simp append_assoc
 
-said_from-line : (old : Draft) (bytes : List ℕ) (ending : Ending) (rest : List ℕ) → IsOneLine (old.line.items ++ bytes) → said_from old ending ((bytes ++ 10 ∷ []) ++ rest) ≡ said_on old.room ending old.number rest (said old.room old.script (old.line.items ++ bytes))
+said_from-line : (old : Draft) (bytes : List ℕ) (ending : Ending) (rest : List ℕ) → IsOneLine (old.line.items ++ bytes) → said_from old ending ((bytes ++ 10 ∷ []) ++ rest) ≡ said_on old.rules ending old.number rest (said old.rules old.script (old.line.items ++ bytes))
 said_from-line old bytes ending rest one =
-    ap (λ t. lines_said old.room ending old.script old.number (lines t)) (regroup old.line.items bytes rest) ∙ lines_said-first old.room ending old.script old.number (old.line.items ++ bytes) rest one
+    ap (λ t. lines_said old.rules ending old.script old.number (lines t)) (regroup old.line.items bytes rest) ∙ lines_said-first old.rules ending old.script old.number (old.line.items ++ bytes) rest one
 
 -- the line was judged
-pub ended_ok : (old new : Draft) (bytes : List ℕ) → IsOneLine (old.line.items ++ bytes) → said old.room old.script (old.line.items ++ bytes) ≡ Some new.script → new.room ≡ old.room → new.number ≡ old.number + 1 → new.line.items ≡ [] → Continues old new (bytes ++ 10 ∷ [])
-ended_ok old new bytes one judged room number line = record {
-  same = λ ending rest. said_from-line old bytes ending rest one ∙ ap (said_on old.room ending old.number rest) judged ∙ same_place ending rest;
+pub ended_ok : (old new : Draft) (bytes : List ℕ) → IsOneLine (old.line.items ++ bytes) → said old.rules old.script (old.line.items ++ bytes) ≡ Some new.script → new.rules ≡ old.rules → new.number ≡ old.number + 1 → new.line.items ≡ [] → Continues old new (bytes ++ 10 ∷ [])
+ended_ok old new bytes one judged rules number line = record {
+  same = λ ending rest. said_from-line old bytes ending rest one ∙ ap (said_on old.rules ending old.number rest) judged ∙ same_place ending rest;
   one_line = λ k d inside. absurd (omega (arith, ap length line));
-  room = room;
+  rules = rules;
   number = omega (arith, length-append bytes (10 ∷ []));
 }
   where
-    same_place : (ending : Ending) (rest : List ℕ) → lines_said old.room ending new.script (old.number + 1) (lines rest) ≡ said_from new ending rest
+    same_place : (ending : Ending) (rest : List ℕ) → lines_said old.rules ending new.script (old.number + 1) (lines rest) ≡ said_from new ending rest
     same_place ending rest =
-        ap (λ r. lines_said r ending new.script (old.number + 1) (lines rest)) (sym room) ∙ ap (λ n. lines_said new.room ending new.script n (lines rest)) (sym number) ∙ ap (λ t. lines_said new.room ending new.script new.number (lines (t ++ rest))) (sym line)
+        ap (λ r. lines_said r ending new.script (old.number + 1) (lines rest)) (sym rules) ∙ ap (λ n. lines_said new.rules ending new.script n (lines rest)) (sym number) ∙ ap (λ t. lines_said new.rules ending new.script new.number (lines (t ++ rest))) (sym line)
 
 -- the line is at fault, whatever follows
-pub ended_bad : (old : Draft) (bytes : List ℕ) (number : ℕ) → IsOneLine (old.line.items ++ bytes) → said old.room old.script (old.line.items ++ bytes) ≡ None → number ≡ old.number → (ending : Ending) (rest : List ℕ) → said_from old ending ((bytes ++ 10 ∷ []) ++ rest) ≡ Err number
+pub ended_bad : (old : Draft) (bytes : List ℕ) (number : ℕ) → IsOneLine (old.line.items ++ bytes) → said old.rules old.script (old.line.items ++ bytes) ≡ None → number ≡ old.number → (ending : Ending) (rest : List ℕ) → said_from old ending ((bytes ++ 10 ∷ []) ++ rest) ≡ Err number
 ended_bad old bytes number one judged is ending rest =
-    said_from-line old bytes ending rest one ∙ ap (said_on old.room ending old.number rest) judged ∙ ap Err (sym is)
+    said_from-line old bytes ending rest one ∙ ap (said_on old.rules ending old.number rest) judged ∙ ap Err (sym is)
 
 pub one_line-append : (a b : List ℕ) → IsOneLine a → IsOneLine b → IsOneLine (a ++ b)
 one_line-append a b one two = All-append (λ byte. is_line_feed byte ≡ false) a b one two
@@ -48,11 +48,11 @@ takes-refused old new bytes (Memory e) one judged = judged
 pub finish-one : (draft : Draft) → IsOneLine draft.line.items → lines (draft.line.items ++ []) ≡ (draft.line.items ++ []) ∷ []
 finish-one draft one = lines-one (draft.line.items ++ []) (one_line-append draft.line.items [] one (All-nil (λ byte. is_line_feed byte ≡ false)))
 
-pub finished : (draft new : Draft) → IsOneLine draft.line.items → said draft.room draft.script (draft.line.items ++ []) ≡ Some new.script → said_from draft Whole [] ≡ Ok new.script
-finished draft new one judged = ap (lines_said draft.room Whole draft.script draft.number) (finish-one draft one) ∙ ap (λ o. elim o [ None ↦ Err draft.number | Some more ↦ Ok more ]) judged
+pub finished : (draft new : Draft) → IsOneLine draft.line.items → said draft.rules draft.script (draft.line.items ++ []) ≡ Some new.script → said_from draft Whole [] ≡ Ok new.script
+finished draft new one judged = ap (lines_said draft.rules Whole draft.script draft.number) (finish-one draft one) ∙ ap (λ o. elim o [ None ↦ Err draft.number | Some more ↦ Ok more ]) judged
 
 pub finishes-refused : (draft new : Draft) (refused : ScriptRefused) → IsOneLine draft.line.items → Judges draft new [] (Err refused) → Finishes draft (Err refused)
-finishes-refused draft new (Line number) one judged = ap (lines_said draft.room Whole draft.script draft.number) (finish-one draft one) ∙ ap (λ o. elim o [ None ↦ Err draft.number | Some more ↦ Ok more ]) judged.0 ∙ ap Err (sym judged.1)
+finishes-refused draft new (Line number) one judged = ap (lines_said draft.rules Whole draft.script draft.number) (finish-one draft one) ∙ ap (λ o. elim o [ None ↦ Err draft.number | Some more ↦ Ok more ]) judged.0 ∙ ap Err (sym judged.1)
 finishes-refused draft new Failed one judged = judged
 finishes-refused draft new (Memory e) one judged = judged
 
@@ -60,7 +60,7 @@ finishes-refused draft new (Memory e) one judged = judged
 pub record Taking (first now : Draft) (piece rest : List ℕ) : Type 0 where
   pub same : (ending : Ending) (more : List ℕ) → said_from first ending (piece ++ more) ≡ said_from now ending (rest ++ more)
   pub one_line : IsOneLine now.line.items
-  pub room : now.room ≡ first.room
+  pub rules : now.rules ≡ first.rules
   pub number : now.number + length rest ≤ first.number + length piece
 
 -- a line of the rest was taken
@@ -69,7 +69,7 @@ taking-more first now next piece rest line behind taking parts continues = recor
   same = λ ending more.
       taking.same ending more ∙ ap (λ t. said_from now ending (t ++ more)) parts ∙ ap (said_from now ending) (grouped line behind more) ∙ continues.same ending (behind ++ more);
   one_line = continues.one_line;
-  room = continues.room ∙ taking.room;
+  rules = continues.rules ∙ taking.rules;
   number = omega (arith, taking.number, continues.number, ap length parts, length-append line (10 ∷ behind), length-append line (10 ∷ []));
 }
   where
@@ -87,14 +87,14 @@ taking-bad first now next piece rest line behind Failed taking parts bad = bad
 taking-bad first now next piece rest line behind (Memory e) taking parts bad = bad
 
 -- what is left of a piece is a part of a line
-pub taking-all : (first now next : Draft) (piece rest : List ℕ) → Taking first now piece rest → IsOneLine rest → next.script ≡ now.script → next.room ≡ now.room → next.number ≡ now.number → next.line.items ≡ now.line.items ++ rest → Continues first next piece
-taking-all first now next piece rest taking one script room number line = record {
-  same = λ ending more. taking.same ending more ∙ ap (λ t. lines_said now.room ending now.script now.number (lines t)) (sym (append_assoc now.line.items rest more)) ∙ same_place ending more;
+pub taking-all : (first now next : Draft) (piece rest : List ℕ) → Taking first now piece rest → IsOneLine rest → next.script ≡ now.script → next.rules ≡ now.rules → next.number ≡ now.number → next.line.items ≡ now.line.items ++ rest → Continues first next piece
+taking-all first now next piece rest taking one script rules number line = record {
+  same = λ ending more. taking.same ending more ∙ ap (λ t. lines_said now.rules ending now.script now.number (lines t)) (sym (append_assoc now.line.items rest more)) ∙ same_place ending more;
   one_line = subst IsOneLine (sym line) (one_line-append now.line.items rest taking.one_line one);
-  room = room ∙ taking.room;
+  rules = rules ∙ taking.rules;
   number = omega (arith, taking.number, number);
 }
   where
-    same_place : (ending : Ending) (more : List ℕ) → lines_said now.room ending now.script now.number (lines ((now.line.items ++ rest) ++ more)) ≡ said_from next ending more
+    same_place : (ending : Ending) (more : List ℕ) → lines_said now.rules ending now.script now.number (lines ((now.line.items ++ rest) ++ more)) ≡ said_from next ending more
     same_place ending more =
-        ap (λ r. lines_said r ending now.script now.number (lines ((now.line.items ++ rest) ++ more))) (sym room) ∙ ap (λ s. lines_said next.room ending s now.number (lines ((now.line.items ++ rest) ++ more))) (sym script) ∙ ap (λ n. lines_said next.room ending next.script n (lines ((now.line.items ++ rest) ++ more))) (sym number) ∙ ap (λ t. lines_said next.room ending next.script next.number (lines (t ++ more))) (sym line)
+        ap (λ r. lines_said r ending now.script now.number (lines ((now.line.items ++ rest) ++ more))) (sym rules) ∙ ap (λ s. lines_said next.rules ending s now.number (lines ((now.line.items ++ rest) ++ more))) (sym script) ∙ ap (λ n. lines_said next.rules ending next.script n (lines ((now.line.items ++ rest) ++ more))) (sym number) ∙ ap (λ t. lines_said next.rules ending next.script next.number (lines (t ++ more))) (sym line)

@@ -1,12 +1,12 @@
-pub mod Appended
+pub mod Allowed
 pub mod Batches
 pub mod Behind
 pub mod Clients
 pub mod Digits
 pub mod Drafting
+pub mod Generating
 pub mod Inputs
 pub mod Lines
 pub mod Names
-pub mod Pieces
 pub mod Places
 pub mod WordLists

@@ -9,6 +9,7 @@ use Rattle.std.specs.List.{position_or_len, onto_first}
 use Rattle.ann_script.proofs.Places.{found_is_first, none_is_past}
 use Rattle.ann_script.specs.Script.{Client, Ending, is_line_feed, lines, said, lines_said}
 use Rattle.ann_script.specs.Drafts.{IsOneLine}
+use Rattle.ann_script.specs.declared.verbs.Rules.{Rules}
 
 -- no line feed is found in a text that has none
 pub one_line-from_none : (text : List ℕ) → position is_line_feed text ≡ None → IsOneLine text
@@ -45,16 +46,16 @@ some_line (b ∷ bs) =
     ]
 
 -- what is said of a line and of those behind it
-abbrev pub said_on : ℕ → Ending → ℕ → List ℕ → Option (List Client) → Result (List Client) ℕ
-said_on room ending number rest None = Err number
-said_on room ending number rest (Some more) = lines_said room ending more (number + 1) (lines rest)
+abbrev pub said_on : Rules → Ending → ℕ → List ℕ → Option (List Client) → Result (List Client) ℕ
+said_on rules ending number rest None = Err number
+said_on rules ending number rest (Some more) = lines_said rules ending more (number + 1) (lines rest)
 
 -- a whole line in front is judged, and then the others
-pub lines_said-first : (room : ℕ) (ending : Ending) (clients : List Client) (number : ℕ) (line rest : List ℕ) → IsOneLine line → lines_said room ending clients number (lines (line ++ 10 ∷ rest)) ≡ said_on room ending number rest (said room clients line)
-lines_said-first room ending clients number line rest one =
+pub lines_said-first : (rules : Rules) (ending : Ending) (clients : List Client) (number : ℕ) (line rest : List ℕ) → IsOneLine line → lines_said rules ending clients number (lines (line ++ 10 ∷ rest)) ≡ said_on rules ending number rest (said rules clients line)
+lines_said-first rules ending clients number line rest one =
     let more = some_line rest in
-    ap (lines_said room ending clients number) (lines-first line rest one ∙ ap (λ t. line ∷ t) more.2) ∙ judged room ending number more.0 more.1 rest more.2 (said room clients line)
+    ap (lines_said rules ending clients number) (lines-first line rest one ∙ ap (λ t. line ∷ t) more.2) ∙ judged rules ending number more.0 more.1 rest more.2 (said rules clients line)
   where
-    judged : (room : ℕ) (ending : Ending) (number : ℕ) (first : List ℕ) (others : List (List ℕ)) (rest : List ℕ) → lines rest ≡ first ∷ others → (judgement : Option (List Client)) → elim judgement [ None ↦ Err number | Some more ↦ lines_said room ending more (number + 1) (first ∷ others) ] ≡ said_on room ending number rest judgement
-    judged room ending number first others rest is None = refl
-    judged room ending number first others rest is (Some more) = ap (lines_said room ending more (number + 1)) (sym is)
+    judged : (rules : Rules) (ending : Ending) (number : ℕ) (first : List ℕ) (others : List (List ℕ)) (rest : List ℕ) → lines rest ≡ first ∷ others → (judgement : Option (List Client)) → elim judgement [ None ↦ Err number | Some more ↦ lines_said rules ending more (number + 1) (first ∷ others) ] ≡ said_on rules ending number rest judgement
+    judged rules ending number first others rest is None = refl
+    judged rules ending number first others rest is (Some more) = ap (lines_said rules ending more (number + 1)) (sym is)

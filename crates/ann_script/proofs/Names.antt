@@ -1,12 +1,9 @@
 -- The bytes of names.
-use Rattle.std.proofs.Common.{◌≡◌, ◌<◌, ℕ, List, [], ◌∷◌, length, get_or, arith, true, Bool, zero, suc, false, ◌&&◌, refl}
+use Rattle.std.proofs.Common.{◌≡◌, ◌<◌, ℕ, List, [], ◌∷◌, length, get_or, arith, true, zero, suc}
 use Rattle.std.proofs.lemmas.Grind.{common_steps}
 use Rattle.std.specs.List.{list_all}
 use Rattle.ann_script.specs.Grammar.{is_name_byte}
-
-both : (a b : Bool) → (a && b) ≡ true → (a ≡ true) × (b ≡ true)
-both true b e = (refl, e)
-both false b e = absurd (cc)
+use Rattle.ann_types.proofs.Booleans.{both}
 
 -- they are ASCII
 name_byte_ascii : (byte : ℕ) → is_name_byte byte ≡ true → byte < 128

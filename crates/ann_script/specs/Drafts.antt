@@ -16,13 +16,13 @@ SplitsLine text result = MatchOption result (IsOneLine text) (λ parts. IsOneLin
 
 -- what the rest of the text says behind a draft
 abbrev pub said_from : Draft → Ending → List ℕ → Result (List Client) ℕ
-said_from draft ending rest = lines_said draft.room ending draft.script draft.number (lines (draft.line.items ++ rest))
+said_from draft ending rest = lines_said draft.rules ending draft.script draft.number (lines (draft.line.items ++ rest))
 
 -- a text was taken: whatever follows, it says the same behind the new draft as this text with it behind the old one
 pub record Continues (old new : Draft) (text : List ℕ) : Type 0 where
   pub same : (ending : Ending) (rest : List ℕ) → said_from old ending (text ++ rest) ≡ said_from new ending rest
   pub one_line : IsOneLine new.line.items
-  pub room : new.room ≡ old.room
+  pub rules : new.rules ≡ old.rules
   pub number : new.number ≤ old.number + length text
 
 -- a text was taken, or one of its lines is the first at fault, whatever follows
@@ -34,8 +34,8 @@ Takes old new text (Err (Memory e)) = Unit {0}
 
 -- the line that begins in the draft and ends with these bytes was judged, or is at fault
 abbrev pub Judges : Draft → Draft → List ℕ → Result (Unit {0}) ScriptRefused → Type 0
-Judges old new bytes (Ok done) = (said old.room old.script (old.line.items ++ bytes) ≡ Some new.script) × (new.room ≡ old.room) × (new.number ≡ old.number)
-Judges old new bytes (Err (Line number)) = (said old.room old.script (old.line.items ++ bytes) ≡ None) × (number ≡ old.number)
+Judges old new bytes (Ok done) = (said old.rules old.script (old.line.items ++ bytes) ≡ Some new.script) × (new.rules ≡ old.rules) × (new.number ≡ old.number)
+Judges old new bytes (Err (Line number)) = (said old.rules old.script (old.line.items ++ bytes) ≡ None) × (number ≡ old.number)
 Judges old new bytes (Err Failed) = ⊥
 Judges old new bytes (Err (Memory e)) = Unit {0}
 

@@ -1,13 +1,15 @@
 -- The grammar of a line of a script.
-use Rattle.std.specs.Prelude.{ℕ, ◌-◌, ◌^◌, ◌==◌, ◌||◌, ◌&&◌, nat_le, Bool, true, false, List, [], ◌∷◌, length, Option, None, Some, codes, if◌then◌else◌}
+use Rattle.std.specs.Prelude.{ℕ, ◌+◌, ◌-◌, ◌^◌, ◌==◌, ◌||◌, ◌&&◌, nat_le, Bool, true, false, List, [], ◌∷◌, length, Option, None, Some, codes, if◌then◌else◌}
 use Rattle.std.specs.List.{list_all, slice_split}
 use Rattle.std.specs.Char.{is_ascii_alphanumeric}
 use Rattle.std.specs.Str.{bytes_eq}
 use Rattle.std.specs.Str.Lines.{strip_carriage_return}
 use Rattle.ann_types.specs.declared.change.Change.{Change}
 use Rattle.ann_types.specs.declared.change.Change.TheVariants.{Insert, Delete, Replace}
-use Rattle.ann_script.specs.Order.{Order, Apply, Find}
+use Rattle.ann_script.specs.Order.{Order, Apply, Find, Merge, Fill}
 use Rattle.ann_script.specs.Words.{words, number_of}
+use Rattle.ann_script.specs.declared.verbs.Verbs.{Verbs}
+use Rattle.ann_script.specs.declared.verbs.Verbs.TheVariants as verbs
 
 infixl 10 ◌>>=◌
 -- a step, and then one that takes what it gave
@@ -74,13 +76,51 @@ search_of [] = None
 search_of (k ∷ []) = None
 search_of (k ∷ l ∷ rest) = number_of 1000 k >>= λ wanted. number_of 1000 l >>= λ width. vector rest >>= λ v. if nat_le 1 wanted && nat_le wanted width then Some (Find wanted width v) else None
 
+-- `merge` alone
+abbrev pub merge_of : List (List ℕ) → Option Order
+merge_of [] = Some Merge
+merge_of (word ∷ rest) = None
+
+-- `fill SEED COUNT FIRST`: a seed below 2^31, 1 to 1,000,000 points, and tags that end below 2^64
+abbrev pub fill_of : List (List ℕ) → Option Order
+fill_of [] = None
+fill_of (seed ∷ []) = None
+fill_of (seed ∷ count ∷ []) = None
+fill_of (seed ∷ count ∷ first ∷ []) = number_of (2 ^ 31 - 1) seed >>= λ s. number_of 1000000 count >>= λ n. tag first >>= λ t. if nat_le 1 n && nat_le (t + n) (2 ^ 64) then Some (Fill s n t) else None
+fill_of (seed ∷ count ∷ first ∷ next ∷ rest) = None
+
 -- a verb and its operands
 abbrev pub command : List (List ℕ) → Option Order
 command [] = None
 command (verb ∷ operands) =
     if bytes_eq verb (codes "search") then search_of operands
     else (if bytes_eq verb (codes "batch") then (batch operands >>= λ cs. Some (Apply cs true))
-    else (single (verb ∷ operands) >>= λ cs. Some (Apply cs false)))
+    else (if bytes_eq verb (codes "merge") then merge_of operands
+    else (if bytes_eq verb (codes "fill") then fill_of operands
+    else (single (verb ∷ operands) >>= λ cs. Some (Apply cs false)))))
+
+-- `once` and `run` have updates
+abbrev pub has_updates : Verbs → Bool
+has_updates verbs.Once = true
+has_updates verbs.All = true
+has_updates verbs.Truth = false
+
+-- `run` alone has merges and fills
+abbrev pub has_merges : Verbs → Bool
+has_merges verbs.Once = false
+has_merges verbs.All = true
+has_merges verbs.Truth = false
+
+-- the command has one of these verbs; a search is everybody's
+abbrev pub has : Verbs → Order → Bool
+has verbs (Apply changes batch) = has_updates verbs
+has verbs (Find k l vector) = true
+has verbs Merge = has_merges verbs
+has verbs (Fill seed count first) = has_merges verbs
+
+-- a command with one of these verbs
+abbrev pub command_of : Verbs → List (List ℕ) → Option Order
+command_of verbs text = command text >>= λ order. if has verbs order then Some order else None
 
 abbrev pub is_name_byte : ℕ → Bool
 is_name_byte byte = is_ascii_alphanumeric byte || (byte == 95) || (byte == 45)
@@ -100,11 +140,11 @@ pub data Line : Type 0 where
   Says : List ℕ → Order → Line
   Bad : Line
 
-abbrev pub line_of_words : List (List ℕ) → Line
-line_of_words [] = Silent
-line_of_words (word ∷ rest) =
+abbrev pub line_of_words : Verbs → List (List ℕ) → Line
+line_of_words verbs [] = Silent
+line_of_words verbs (word ∷ rest) =
     if is_comment word then Silent
-    else (if is_name word then elim (command rest) [ None ↦ Bad | Some order ↦ Says word order ] else Bad)
+    else (if is_name word then elim (command_of verbs rest) [ None ↦ Bad | Some order ↦ Says word order ] else Bad)
 
-abbrev pub line_of : List ℕ → Line
-line_of line = line_of_words (words (strip_carriage_return line))
+abbrev pub line_of : Verbs → List ℕ → Line
+line_of verbs line = line_of_words verbs (words (strip_carriage_return line))

@@ -1,14 +1,12 @@
+pub mod Allowed
 pub mod Drafts
-pub mod Faults
+pub mod Generator
 pub mod Grammar
-pub mod Memory
 pub mod Operands
 pub mod Order
-pub mod Outputs
 pub mod Parsed
 pub mod Parts
 pub mod Reading
 pub mod Sayings
 pub mod Script
-pub mod Transcript
 pub mod Words

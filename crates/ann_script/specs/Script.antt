@@ -3,6 +3,8 @@ use Rattle.std.specs.Prelude.{ℕ, ◌+◌, ◌-◌, ◌^◌, ◌==◌, nat_le, 
 use Rattle.std.specs.List.{slice_split}
 use Rattle.std.specs.Str.{bytes_eq}
 use Rattle.ann_script.specs.Order.{Order}
+use Rattle.ann_script.specs.declared.verbs.Rules.{Rules}
+use Rattle.ann_script.specs.declared.verbs.Verbs.{Verbs}
 use Rattle.ann_script.specs.Grammar.{Line, Silent, Says, Bad, line_of, ◌>>=◌}
 
 -- a client's name and its commands, in order
@@ -17,14 +19,18 @@ added room (client ∷ others) name order =
     if bytes_eq client.name name then Some (record client { orders = client.orders ++ order ∷ [] } ∷ others)
     else added (room - 1) others name order >>= λ more. Some (client ∷ more)
 
--- the clients with what was said, or none where that is at fault
-abbrev pub line_said : ℕ → List Client → Line → Option (List Client)
-line_said room clients Silent = Some clients
-line_said room clients (Says name order) = added room clients name order
-line_said room clients Bad = None
+-- whose verbs a script has, and how many clients
+abbrev pub rules : Verbs → ℕ → Rules
+rules verbs clients = record { verbs = verbs; clients = clients }
 
-abbrev pub said : ℕ → List Client → List ℕ → Option (List Client)
-said room clients line = line_said room clients (line_of line)
+-- the clients with what was said, or none where that is at fault
+abbrev pub line_said : Rules → List Client → Line → Option (List Client)
+line_said rules clients Silent = Some clients
+line_said rules clients (Says name order) = added rules.clients clients name order
+line_said rules clients Bad = None
+
+abbrev pub said : Rules → List Client → List ℕ → Option (List Client)
+said rules clients line = line_said rules clients (line_of rules.verbs line)
 
 -- how the text of a script ended: as a whole, cut by a fault of reading, or before the first byte past the limit
 pub data Ending : Type 0 where
@@ -33,18 +39,18 @@ pub data Ending : Type 0 where
   Long : Ending
 
 -- the last line: a whole text's is judged, a cut one isn't, and one with the first byte past the limit is at fault
-abbrev pub last_said : ℕ → Ending → List Client → ℕ → List ℕ → Result (List Client) ℕ
-last_said room Whole clients number line = elim (said room clients line) [ None ↦ Err number | Some more ↦ Ok more ]
-last_said room Cut clients number line = Ok clients
-last_said room Long clients number line = Err number
+abbrev pub last_said : Rules → Ending → List Client → ℕ → List ℕ → Result (List Client) ℕ
+last_said rules Whole clients number line = elim (said rules clients line) [ None ↦ Err number | Some more ↦ Ok more ]
+last_said rules Cut clients number line = Ok clients
+last_said rules Long clients number line = Err number
 
 -- what lines say, the first of which has this number, or the number of the first line at fault
-abbrev pub lines_said : ℕ → Ending → List Client → ℕ → List (List ℕ) → Result (List Client) ℕ
-lines_said room ending clients number [] = Ok clients
-lines_said room ending clients number (line ∷ []) = last_said room ending clients number line
-lines_said room ending clients number (line ∷ next ∷ others) = elim (said room clients line) [
+abbrev pub lines_said : Rules → Ending → List Client → ℕ → List (List ℕ) → Result (List Client) ℕ
+lines_said rules ending clients number [] = Ok clients
+lines_said rules ending clients number (line ∷ []) = last_said rules ending clients number line
+lines_said rules ending clients number (line ∷ next ∷ others) = elim (said rules clients line) [
   | None ↦ Err number
-  | Some more ↦ lines_said room ending more (number + 1) (next ∷ others)
+  | Some more ↦ lines_said rules ending more (number + 1) (next ∷ others)
 ]
 
 abbrev pub is_line_feed : ℕ → Bool
@@ -55,12 +61,12 @@ abbrev pub lines : List ℕ → List (List ℕ)
 lines text = slice_split is_line_feed text
 
 -- what the text of a script says
-abbrev pub text_said : ℕ → Ending → List ℕ → Result (List Client) ℕ
-text_said room ending text = lines_said room ending [] 1 (lines text)
+abbrev pub text_said : Rules → Ending → List ℕ → Result (List Client) ℕ
+text_said rules ending text = lines_said rules ending [] 1 (lines text)
 
 abbrev pub limit : ℕ
 limit = 2 ^ 26
 
--- what an input says as a script of at most `room` clients
-abbrev pub script_of : ℕ → List ℕ → Result (List Client) ℕ
-script_of room input = if nat_le (length input) limit then text_said room Whole input else text_said room Long (take limit input)
+-- what an input says as a script under these rules
+abbrev pub script_of : Rules → List ℕ → Result (List Client) ℕ
+script_of rules input = if nat_le (length input) limit then text_said rules Whole input else text_said rules Long (take limit input)

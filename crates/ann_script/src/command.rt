@@ -1,12 +1,5 @@
 use crate::change_list::ChangeList;
-use ann_types::Ask;
-
-/// Whose verbs a script has.
-#[derive(Clone, Copy, Debug, PartialEq, Eq)]
-pub enum Verbs {
-    /// Those of the command `once`.
-    Once,
-}
+use ann_types::{Ask, Tag};
 
 /// One command of a script.
 #[derive(Debug, Drop)]
@@ -15,4 +8,8 @@ pub enum Command {
     Update { changes: ChangeList, batch: bool },
     /// A search.
     Search { ask: Ask },
+    /// A merge of the graphs in memory into the long-term graph.
+    Merge,
+    /// So many inserts of points that a generator makes from a seed, with tags from `first` on.
+    Fill { seed: u32, count: u32, first: Tag },
 }

@@ -5,6 +5,7 @@ ghost use Rattle.ann_script.specs.Drafts.{IsOneLine, SplitsLine, Takes, Judges, 
 use crate::parse_refused::ParseRefused;
 use crate::script::Script;
 use crate::script_refused::ScriptRefused;
+use crate::verbs::Rules;
 use std::alloc::Global;
 
 /// A script of which a part was read: the clients with what the whole lines so far say, the number of the line that
@@ -12,7 +13,7 @@ use std::alloc::Global;
 #[derive(Drop)]
 pub(crate) struct Draft {
     script: Script,
-    room: u32,
+    rules: Rules,
     number: u64,
     line: Vec<u8>,
 }
@@ -35,16 +36,16 @@ fn split_line(text: &[u8]) -> Option<(&[u8], &[u8])>
 }
 
 impl Draft {
-    /// The draft before the first byte of a script, which may have `room` clients.
-    pub(crate) fn new(alloc: Global, room: u32) -> Draft
+    /// The draft before the first byte of a script under these rules.
+    pub(crate) fn new(alloc: Global, rules: Rules) -> Draft
         ensures script { result.script ≡ [] }
-        ensures room { result.room ≡ room }
+        ensures rules { result.rules ≡ rules }
         ensures number { result.number ≡ 1 }
         ensures line { result.line.items ≡ [] }
     {
         Draft {
             script: Script::new(alloc),
-            room,
+            rules,
             number: 1,
             line: Vec::new(alloc),
         }
@@ -62,10 +63,10 @@ impl Draft {
         ensures { Judges self.old self.new bytes.now result }
     {
         let said = if self.line.is_empty() {
-            self.script.say(alloc, self.room, bytes)
+            self.script.say(alloc, self.rules, bytes)
         } else {
             self.line.extend_from_slice(bytes)?;
-            self.script.say(alloc, self.room, &self.line)
+            self.script.say(alloc, self.rules, &self.line)
         };
         match said {
             Ok(()) => Ok(()),

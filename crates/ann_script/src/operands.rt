@@ -67,7 +67,9 @@ impl<'a> Iterator for Operands<'a> {
 
 /// What stands behind the first `;` of a text, where it has one.
 pub fn behind_separator(text: &[u8]) -> Option<&[u8]>
-    ensures { MatchOption result (later (words text.now) ≡ []) (λ rest. later (words text.now) ≡ parts (words rest.now)) }
+    ensures { MatchOption result
+        (later (words text.now) ≡ [])
+        (λ rest. later (words text.now) ≡ parts (words rest.now)) }
 {
     let mut text = Words { rest: text };
     while let Some(word) = text.next() {

@@ -1,8 +1,8 @@
-ghost use Rattle.std.specs.Prelude.{◌≡◌, true};
+ghost use Rattle.std.specs.Prelude.{◌≡◌, true, [], ◌∷◌};
 ghost use Rattle.std.specs.List.{list_all};
 ghost use Rattle.ann_script.specs.Words.{words};
 ghost use Rattle.ann_script.specs.Order.{order_of, Find};
-ghost use Rattle.ann_script.specs.Grammar.{components, vector, point, lone_tag, change, single, batch, search_of, command, is_name, is_name_byte, is_comment, line_of};
+ghost use Rattle.ann_script.specs.Grammar.{components, vector, point, lone_tag, change, single, batch, search_of, merge_of, fill_of, command, command_of, is_name, is_name_byte, is_comment, line_of};
 ghost use Rattle.ann_script.specs.Operands.{given};
 ghost use Rattle.ann_script.specs.Parsed.{Parses};
 ghost use Rattle.ann_script.specs.Sayings.{SaysLine};
@@ -12,6 +12,7 @@ use crate::command::Command;
 use crate::numbers::number;
 use crate::operands::{Operands, behind_separator};
 use crate::parse_refused::ParseRefused;
+use crate::verbs::Verbs;
 use crate::words::{Words, without_return};
 use ann_types::{Ask, Change, Tag, Vector};
 use std::alloc::Global;
@@ -21,6 +22,12 @@ const MOST_COMPONENTS: usize = 1024;
 
 /// The most changes that a batch has.
 const MOST_CHANGES: u32 = 64;
+
+/// The greatest seed of a fill.
+const MOST_SEED: u64 = (1 << 31) - 1;
+
+/// The most points of a fill.
+const MOST_POINTS: u64 = 1_000_000;
 
 /// What a line says.
 pub enum Saying<'a> {
@@ -150,6 +157,55 @@ fn read_single(alloc: Global, text: &[u8]) -> Result<ChangeList, ParseRefused>
     Ok(changes)
 }
 
+/// The merge, where there is no operand.
+fn read_merge(mut operands: Operands<'_>) -> Result<Command, ParseRefused>
+    ensures { Parses order_of result (merge_of (given operands.entry)) }
+{
+    match operands.next() {
+        None => Ok(Command::Merge),
+        Some(_) => Err(ParseRefused::Fault),
+    }
+}
+
+/// The numbers of a fill, where its tags end below 2^64.
+fn fill(seed: &[u8], count: &[u8], first: &[u8]) -> Result<Command, ParseRefused>
+    ensures { Parses order_of result (fill_of (seed.now ∷ count.now ∷ first.now ∷ [])) }
+{
+    match (
+        number(seed, MOST_SEED),
+        number(count, MOST_POINTS),
+        number(first, Tag::MAX),
+    ) {
+        (Some(seed), Some(count), Some(first)) if count >= 1 && first <= Tag::MAX - (count - 1) => {
+            Ok(Command::Fill {
+                seed: seed as u32,
+                count: count as u32,
+                first,
+            })
+        }
+        _ => Err(ParseRefused::Fault),
+    }
+}
+
+/// The fill of which these are the seed, the number of points and the first tag.
+fn read_fill(mut operands: Operands<'_>) -> Result<Command, ParseRefused>
+    ensures { Parses order_of result (fill_of (given operands.entry)) }
+{
+    let Some(seed) = operands.next() else {
+        return Err(ParseRefused::Fault);
+    };
+    let Some(count) = operands.next() else {
+        return Err(ParseRefused::Fault);
+    };
+    let Some(first) = operands.next() else {
+        return Err(ParseRefused::Fault);
+    };
+    match operands.next() {
+        None => fill(seed, count, first),
+        Some(_) => Err(ParseRefused::Fault),
+    }
+}
+
 /// The command of which this is the text, verb and operands.
 fn read_command(alloc: Global, text: &[u8]) -> Result<Command, ParseRefused>
     ensures { Parses order_of result (command (words text.now)) }
@@ -169,11 +225,29 @@ fn read_command(alloc: Global, text: &[u8]) -> Result<Command, ParseRefused>
             batch: true,
         });
     }
+    if verb == b"merge".as_slice() {
+        return read_merge(Operands::all(operands.rest));
+    }
+    if verb == b"fill".as_slice() {
+        return read_fill(Operands::all(operands.rest));
+    }
     let changes = read_single(alloc, text)?;
     Ok(Command::Update {
         changes,
         batch: false,
     })
+}
+
+/// The command of which this is the text, where it has one of these verbs.
+fn read_one_of(alloc: Global, verbs: Verbs, text: &[u8]) -> Result<Command, ParseRefused>
+    ensures { Parses order_of result (command_of verbs (words text.now)) }
+{
+    let command = read_command(alloc, text)?;
+    if verbs.has(&command) {
+        Ok(command)
+    } else {
+        Err(ParseRefused::Fault)
+    }
 }
 
 /// Whether each byte of a word may stand in a name.
@@ -198,9 +272,9 @@ fn comments(word: &[u8]) -> bool
     matches!(word, [b'#', ..])
 }
 
-/// What a line says.
-pub fn read_line(alloc: Global, line: &[u8]) -> Result<Saying<'_>, ParseRefused>
-    ensures { SaysLine result (line_of line.now) }
+/// What a line says, where these are the script's verbs.
+pub fn read_line(alloc: Global, verbs: Verbs, line: &[u8]) -> Result<Saying<'_>, ParseRefused>
+    ensures { SaysLine result (line_of verbs line.now) }
 {
     let mut text = Words {
         rest: without_return(line),
@@ -214,6 +288,6 @@ pub fn read_line(alloc: Global, line: &[u8]) -> Result<Saying<'_>, ParseRefused>
     if !names(name) {
         return Err(ParseRefused::Fault);
     }
-    let command = read_command(alloc, text.rest)?;
+    let command = read_one_of(alloc, verbs, text.rest)?;
     Ok(Saying::Says { name, command })
 }

@@ -1,13 +1,15 @@
-ghost use Rattle.std.specs.Prelude.{◌≤◌, ◌<◌, length, IfOk, IsErrOf};
-ghost use Rattle.ann_script.specs.Faults.{Rose, HasCause};
-ghost use Rattle.ann_script.specs.Reading.{Reads, ReadsChunk, Tells};
+ghost use Rattle.std.specs.Prelude.{◌≤◌, ◌<◌, length, IfOk};
+ghost use Rattle.ann_fault.specs.Counts.{HasCause};
+ghost use Rattle.ann_outside.specs.Told.{TellsStill};
+ghost use Rattle.ann_script.specs.Allowed.{IsScriptOf};
+ghost use Rattle.ann_script.specs.Script.{rules};
+ghost use Rattle.ann_script.specs.Reading.{Reads, ReadsChunk, CountsReads, Tells};
 
-use crate::command::Verbs;
 use crate::draft::Draft;
-use crate::failed::Failed;
 use crate::script::Script;
 use crate::script_refused::ScriptRefused;
-use crate::source::Source;
+use crate::verbs::{Rules, Verbs};
+use ann_outside::{Failed, Source};
 use std::alloc::Global;
 
 /// The most bytes of a script.
@@ -23,22 +25,23 @@ fn read_chunk<S: Source>(input: &mut S, buffer: &mut [u8], room: usize) -> Resul
     ensures bound { IfOk result (λ n. n ≤ room) }
     ensures held { IfOk result (λ n. n ≤ length buffer.new) }
     ensures bytes { ReadsChunk (S.left input.old) (S.left input.new) buffer.new result }
+    ensures tells { TellsStill (S.left input.old) (S.left input.new) }
     ensures cause { HasCause (S.faults input.old) (S.faults input.new) result }
 {
     input.read(&mut buffer[..room])
 }
 
-/// Reads a script of at most `clients` clients.
+/// Reads a script under these rules.
 fn read_script<S: Source>(
     alloc: Global,
     input: &mut S,
-    clients: u32,
+    rules: Rules,
 ) -> Result<Script, ScriptRefused>
-    ensures reads { Reads clients (S.left input.old) (S.left input.new) result }
-    ensures later { S.faults input.old ≤ S.faults input.new }
-    ensures cause { IsErrOf result ScriptRefused.Failed → Rose (S.faults input.old) (S.faults input.new) }
+    ensures reads { Reads rules (S.left input.old) (S.left input.new) result }
+    ensures told { TellsStill (S.left input.old) (S.left input.new) }
+    ensures count { CountsReads (S.faults input.old) (S.faults input.new) result }
 {
-    let mut draft = Draft::new(alloc, clients);
+    let mut draft = Draft::new(alloc, rules);
     let mut buffer = [0u8; CHUNK];
     let mut count = 0;
     while count < LIMIT {
@@ -64,7 +67,8 @@ fn read_script<S: Source>(
 impl Script {
     /// Reads a script of at most `clients` clients to its end, or up to its first line at fault.
     ///
-    /// Reads no more than one byte beyond `2^26`. Besides the script's commands it holds the longest line alone.
+    /// Reads no more than one byte beyond `2^26`, and nothing after a read that failed. Besides the script's commands it
+    /// holds the longest line alone.
     pub fn read<S: Source>(
         alloc: Global,
         input: &mut S,
@@ -72,14 +76,15 @@ impl Script {
         clients: u32,
     ) -> Result<Script, ScriptRefused>
         // A script, its first line at fault, or a fault of reading, whichever comes first in the input.
-        ensures reads { Reads clients (S.left input.old) (S.left input.new) result }
+        ensures reads { Reads (rules verbs clients) (S.left input.old) (S.left input.new) result }
         // The same of an input that tells its bytes.
-        ensures tells { Tells clients (S.left input.old) result }
-        // A fault of reading is one that was counted in this call.
-        ensures later { S.faults input.old ≤ S.faults input.new }
-        ensures cause { IsErrOf result ScriptRefused.Failed → Rose (S.faults input.old) (S.faults input.new) }
+        ensures tells { Tells (rules verbs clients) (S.left input.old) result }
+        ensures told { TellsStill (S.left input.old) (S.left input.new) }
+        // A script has commands of these verbs alone, each within its limits.
+        ensures allowed { IfOk result (IsScriptOf verbs) }
+        // A fault of reading is one fault more in this call, and in every other case no read failed.
+        ensures count { CountsReads (S.faults input.old) (S.faults input.new) result }
     {
-        let Verbs::Once = verbs;
-        read_script(alloc, input, clients)
+        read_script(alloc, input, Rules { verbs, clients })
     }
 }

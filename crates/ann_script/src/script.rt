@@ -10,6 +10,7 @@ ghost use Rattle.ann_script.specs.Parts.{client_of};
 use crate::command::Command;
 use crate::parse::{Saying, read_line};
 use crate::parse_refused::ParseRefused;
+use crate::verbs::Rules;
 use std::alloc::{AllocError, Global};
 use std::marker::Model;
 
@@ -69,7 +70,9 @@ fn add(
     command: Command,
 ) -> Result<(), ParseRefused>
     requires { list_all is_name_byte name.now ≡ true }
-    ensures said { Becomes result (added room (map client_of parts.old.items) name.now (order_of command)) (map client_of parts.new.items) }
+    ensures said { Becomes result
+        (added room (map client_of parts.old.items) name.now (order_of command))
+        (map client_of parts.new.items) }
     ensures size { length parts.new.items ≤ max (length parts.old.items) room }
 {
     if let Some(at) = place_of(parts, name) {
@@ -97,14 +100,21 @@ impl Script {
         }
     }
 
-    /// Adds what a line says. `room` is the most clients that the script may have.
-    pub(crate) fn say(&mut self, alloc: Global, room: u32, line: &[u8]) -> Result<(), ParseRefused>
-        ensures { Becomes result (said room self.old line.now) self.new }
+    /// Adds what a line says, in a script under these rules.
+    pub(crate) fn say(
+        &mut self,
+        alloc: Global,
+        rules: Rules,
+        line: &[u8],
+    ) -> Result<(), ParseRefused>
+        ensures { Becomes result (said rules self.old line.now) self.new }
     {
-        match read_line(alloc, line) {
+        match read_line(alloc, rules.verbs, line) {
             Err(refused) => Err(refused),
             Ok(Saying::Silent) => Ok(()),
-            Ok(Saying::Says { name, command }) => add(&mut self.parts, alloc, room, name, command),
+            Ok(Saying::Says { name, command }) => {
+                add(&mut self.parts, alloc, rules.clients, name, command)
+            },
         }
     }
 

@@ -1,10 +1,7 @@
 ghost use Rattle.std.specs.Prelude.{None};
 
-use ann_script::{
-    Command, Failed, HitList, Kind, MemorySink, MemorySource, Reply, Script, ScriptRefused,
-    SearchWord, Sink, Source, StdSink, StdSource, Transcript, UpdateWord, Verbs, write_all,
-};
-use ann_types::{Change, Hit, Tag};
+use ann_script::{Command, Failed, MemorySource, Script, ScriptRefused, Source, Verbs};
+use ann_types::Change;
 use std::alloc::{AllocError, Global};
 use std::test::Fail;
 
@@ -13,8 +10,8 @@ const READ_FAULT: u64 = 1 << 40;
 
 const NO_MEMORY: u64 = 1 << 41;
 
-fn fault_of<S: Source>(alloc: Global, input: &mut S) -> u64 {
-    match Script::read(alloc, input, Verbs::Once, 1) {
+fn fault_of<S: Source>(alloc: Global, input: &mut S, verbs: Verbs, clients: u32) -> u64 {
+    match Script::read(alloc, input, verbs, clients) {
         Ok(_) => 0,
         Err(ScriptRefused::Line { number }) => number,
         Err(ScriptRefused::Failed) => READ_FAULT,
@@ -22,12 +19,17 @@ fn fault_of<S: Source>(alloc: Global, input: &mut S) -> u64 {
     }
 }
 
-/// As `fault_of`, of this text, where the read of this number fails.
-fn fault_in(alloc: Global, text: &[u8], failing: u64) -> u64 {
+/// As `fault_of`, of this text.
+fn fault_under(alloc: Global, text: &[u8], failing: u64, verbs: Verbs, clients: u32) -> u64 {
     match MemorySource::new(alloc, text, &[failing]) {
-        Ok(mut input) => fault_of(alloc, &mut input),
+        Ok(mut input) => fault_of(alloc, &mut input, verbs, clients),
         Err(_) => NO_MEMORY,
     }
+}
+
+/// The fault of this text as a script of `once`, where the read of this number fails.
+fn fault_in(alloc: Global, text: &[u8], failing: u64) -> u64 {
+    fault_under(alloc, text, failing, Verbs::Once, 1)
 }
 
 /// A text with so many copies of another behind it.
@@ -79,6 +81,7 @@ const SCRIPTS: &[(&str, u64)] = &[
     ("a insert 7 1 ; delete 8", 1),
     ("a delete 7 ; delete 8", 1),
     ("a merge", 1),
+    ("a fill 1 2 3", 1),
     ("a search 0 4 0", 1),
     ("a search 5 4 0", 1),
     ("a search 4 4 0", 0),
@@ -109,6 +112,45 @@ fn wrong_script(alloc: Global) -> Option<&'static str> {
 #[test]
 fn finds_the_first_line_at_fault(rt: HostRuntime) {
     assert_eq!(rt; wrong_script(rt.alloc()), None);
+}
+
+/// Scripts of several clients, and the number of their first line at fault, for the verbs of `run` and for that of `truth`.
+const OTHERS: &[(&str, u64, u64)] = &[
+    ("a search 1 1 0\nb search 1 1 0\na search 2 2 9", 0, 0),
+    ("a insert 7 3\n", 0, 1),
+    ("a search 1 1 0\nb batch delete 7", 0, 2),
+    ("a merge\nb merge", 0, 1),
+    ("a merge now", 1, 1),
+    ("a fill 1 2 3", 0, 1),
+    ("a fill 2147483647 1000000 0", 0, 1),
+    ("a fill 2147483648 1 0", 1, 1),
+    ("a fill 1 0 0", 1, 1),
+    ("a fill 1 1000001 0", 1, 1),
+    ("a fill 1 1 18446744073709551615", 0, 1),
+    ("a fill 1 2 18446744073709551615", 1, 1),
+    ("a fill 1 2 18446744073709551614", 0, 1),
+    ("a fill 1 2", 1, 1),
+    ("a fill 1 2 3 4", 1, 1),
+    ("a fill 01 2 3", 1, 1),
+];
+
+/// The first of these scripts that is read otherwise.
+fn wrong_other(alloc: Global) -> Option<&'static str> {
+    for &(text, all, truth) in OTHERS {
+        let faults = (
+            fault_under(alloc, text.as_bytes(), 0, Verbs::All, 32),
+            fault_under(alloc, text.as_bytes(), 0, Verbs::Truth, 32),
+        );
+        if faults != (all, truth) {
+            return Some(text);
+        }
+    }
+    None
+}
+
+#[test]
+fn reads_the_verbs_of_each_command(rt: HostRuntime) {
+    assert_eq!(rt; wrong_other(rt.alloc()), None);
 }
 
 /// A front, what follows it, how often, the read that fails, and the fault.
@@ -230,217 +272,8 @@ fn limits_the_bytes(rt: HostRuntime) {
     let alloc = rt.alloc();
     let most = 1 << 26;
     let faults = (
-        fault_of(alloc, &mut Comment { left: most }),
-        fault_of(alloc, &mut Comment { left: most + 1 }),
+        fault_of(alloc, &mut Comment { left: most }, Verbs::Once, 1),
+        fault_of(alloc, &mut Comment { left: most + 1 }, Verbs::Once, 1),
     );
     assert_eq!(rt; faults, (0, 1));
-}
-
-/// Accepted updates: kind, tag, changes and length of the list, with the reply.
-const ACCEPTED: &[(Kind, Tag, u32, u64, &str)] = &[
-    (Kind::Insert, 7, 1, 1, "a 1 inserted 7 at 1\n"),
-    (Kind::Delete, 7, 1, 2, "a 1 deleted 7 at 2\n"),
-    (Kind::Replace, 7, 1, 2, "a 1 replaced 7 at 2\n"),
-    (Kind::Batch, 0, 2, 3, "a 1 accepted 2 at 3\n"),
-    (
-        Kind::Insert,
-        18446744073709551615,
-        1,
-        18446744073709551615,
-        "a 1 inserted 18446744073709551615 at 18446744073709551615\n",
-    ),
-];
-
-/// Refused updates, and whether they are batches, with the reply.
-const UPDATES: &[(UpdateWord, bool, &str)] = &[
-    (
-        UpdateWord::Present {
-            index: 0,
-            tag: 7,
-            at: 1,
-        },
-        false,
-        "a 1 present 7 at 1\n",
-    ),
-    (
-        UpdateWord::Absent {
-            index: 0,
-            tag: 8,
-            at: 1,
-        },
-        false,
-        "a 1 absent 8 at 1\n",
-    ),
-    (
-        UpdateWord::Dimension {
-            index: 0,
-            got: 1,
-            want: 2,
-            at: 0,
-        },
-        false,
-        "a 1 dimension 1 of 2 at 0\n",
-    ),
-    (
-        UpdateWord::Full { index: 0, at: 9 },
-        false,
-        "a 1 full at 9\n",
-    ),
-    (
-        UpdateWord::Present {
-            index: 1,
-            tag: 8,
-            at: 3,
-        },
-        true,
-        "a 1 change 2 present 8 at 3\n",
-    ),
-    (UpdateWord::LogFault, true, "a 1 log fault\n"),
-    (UpdateWord::Stopped { at: 2 }, false, "a 1 stopped at 2\n"),
-    (UpdateWord::Memory, true, "a 1 memory\n"),
-    (
-        UpdateWord::MemoryLogged { at: 5 },
-        false,
-        "a 1 memory, logged at 5\n",
-    ),
-];
-
-/// Refused searches, with the reply.
-const SEARCHES: &[(SearchWord, &str)] = &[
-    (
-        SearchWord::Dimension { got: 3, want: 2 },
-        "a 1 dimension 3 of 2\n",
-    ),
-    (SearchWord::Disk, "a 1 disk\n"),
-    (SearchWord::BadSegment { block: 4 }, "a 1 bad segment 4\n"),
-    (SearchWord::Shut, "a 1 shut\n"),
-];
-
-/// Whether this is the line of a reply. Where there is no memory for it, it is not.
-fn is_line(alloc: Global, reply: &Reply, text: &str) -> bool {
-    let mut transcript = Transcript::new(alloc);
-    transcript.line("a", 1, reply).is_ok() && transcript.bytes() == text.as_bytes()
-}
-
-fn wrong_accepted(alloc: Global) -> Option<&'static str> {
-    for &(kind, tag, count, at, text) in ACCEPTED {
-        let reply = Reply::Accepted {
-            kind,
-            tag,
-            count,
-            at,
-        };
-        if !is_line(alloc, &reply, text) {
-            return Some(text);
-        }
-    }
-    None
-}
-
-#[test]
-fn writes_accepted_updates(rt: HostRuntime) {
-    assert_eq!(rt; wrong_accepted(rt.alloc()), None);
-}
-
-fn wrong_update(alloc: Global) -> Option<&'static str> {
-    for &(refused, batch, text) in UPDATES {
-        if !is_line(alloc, &Reply::Update { refused, batch }, text) {
-            return Some(text);
-        }
-    }
-    None
-}
-
-#[test]
-fn writes_refused_updates(rt: HostRuntime) {
-    assert_eq!(rt; wrong_update(rt.alloc()), None);
-}
-
-fn wrong_search(alloc: Global) -> Option<&'static str> {
-    for &(refused, text) in SEARCHES {
-        if !is_line(alloc, &Reply::Search { refused }, text) {
-            return Some(text);
-        }
-    }
-    None
-}
-
-#[test]
-fn writes_refused_searches(rt: HostRuntime) {
-    assert_eq!(rt; wrong_search(rt.alloc()), None);
-}
-
-fn hits_of(alloc: Global, hits: &[Hit]) -> Result<HitList, AllocError> {
-    let mut list = HitList::new(alloc);
-    for hit in hits {
-        list.push(*hit)?;
-    }
-    Ok(list)
-}
-
-const HITS: &[Hit] = &[
-    Hit {
-        tag: 3,
-        distance: 0,
-    },
-    Hit {
-        tag: 4,
-        distance: 100,
-    },
-];
-
-/// Writes a search that found these hits, one that found none, and the last line.
-fn write_searches(
-    transcript: &mut Transcript,
-    hits: HitList,
-    none: HitList,
-) -> Result<(), AllocError> {
-    transcript.line("a", 10, &Reply::Found { at: 11, hits })?;
-    transcript.line("b-2", 4294967295, &Reply::Found { at: 0, hits: none })?;
-    transcript.last(11, 3)
-}
-
-fn writes_searches(alloc: Global) -> Result<bool, AllocError> {
-    let mut transcript = Transcript::new(alloc);
-    write_searches(&mut transcript, hits_of(alloc, HITS)?, HitList::new(alloc))?;
-    let text =
-        b"a 10 found at 11 3:0 4:100\nb-2 4294967295 found at 0 none\nlog 11 entries, 3 live\n";
-    Ok(transcript.bytes() == text.as_slice())
-}
-
-#[test]
-fn writes_hits_and_the_last_line(rt: HostRuntime) -> Result<(), Fail> {
-    assert!(rt; writes_searches(rt.alloc())?);
-    Ok(())
-}
-
-/// Whether a sink of which this write fails takes a text, and whether it then holds these bytes.
-fn writes(alloc: Global, failing: u64, bytes: &[u8]) -> Result<(bool, bool), AllocError> {
-    let mut out = MemorySink::new(alloc, 5, &[failing])?;
-    let all = write_all(&mut out, b"a 1 inserted 7 at 1\n").is_ok();
-    Ok((all, out.bytes() == bytes))
-}
-
-#[test]
-fn writes_all_or_a_front(rt: HostRuntime) -> Result<(), Fail> {
-    let alloc = rt.alloc();
-    let answers = (
-        writes(alloc, 2, b"a 1 i")?,
-        writes(alloc, 0, b"a 1 inserted 7 at 1\n")?,
-    );
-    assert_eq!(rt; answers, ((false, true), (true, true)));
-    Ok(())
-}
-
-#[test]
-fn reads_standard_input(rt: HostRuntime) {
-    // A read without room takes nothing, so that the test waits for nobody's input.
-    let mut input = StdSource::new(rt.stdin());
-    assert!(rt; matches!(input.read(&mut []), Ok(0)));
-}
-
-#[test]
-fn writes_standard_output(rt: HostRuntime) {
-    let mut out = StdSink::new(rt.stdout());
-    assert!(rt; write_all(&mut out, b"written by a test\n").is_ok());
 }

@@ -9,23 +9,23 @@ use Rattle.ann_prune.specs.Newer.{AreSettled}
 use Rattle.ann_table.specs.declared.label.Label.{Label}
 use Rattle.ann_table.specs.Lists.{Lists}
 use Rattle.ann_table.specs.Node.{Node, node_at, first_row, apart_rows, linked}
-use Rattle.ann_table.specs.Table.{Shown, AreNeighbours, AreNodes, AreStored, node, nodes_of}
+use Rattle.ann_table.specs.Table.{TableView, AreNeighbours, AreNodes, AreStored, node, nodes_of}
 use Rattle.ann_table.proofs.Nodes.{length_nodes, at_nodes, push_nodes, link_nodes, append_nodes}
 use Rattle.ann_table.proofs.Settled.{each_of}
 use Rattle.ann_table.proofs.Sound.{few_nodes, nodes_linked, nodes_added}
 
-abbrev pub shown : Params → List Node → ℕ → Shown
+abbrev pub shown : Params → List Node → ℕ → TableView
 shown params nodes spare = record { params = params; nodes = nodes; spare = spare }
 
-module _ (params : Params) (spare : ℕ) (labels : List Label) (rows edges : Lists) (v : Shown) (is : shown params (nodes_of labels rows.lists edges.lists) spare ≡ v) where
+module _ (params : Params) (spare : ℕ) (labels : List Label) (rows edges : Lists) (v : TableView) (is : shown params (nodes_of labels rows.lists edges.lists) spare ≡ v) where
   pub seen_params : params ≡ v.params
-  seen_params = ap (λ (w : Shown). w.params) is
+  seen_params = ap (λ (w : TableView). w.params) is
 
   pub seen_nodes : nodes_of labels rows.lists edges.lists ≡ v.nodes
-  seen_nodes = ap (λ (w : Shown). w.nodes) is
+  seen_nodes = ap (λ (w : TableView). w.nodes) is
 
   pub seen_spare : spare ≡ v.spare
-  seen_spare = ap (λ (w : Shown). w.spare) is
+  seen_spare = ap (λ (w : TableView). w.spare) is
 
   module _ (count room : ℕ) (ok : count ≡ length labels) (stored : AreStored params spare count room rows edges) where
     vectors_of : length rows.lists ≡ length labels

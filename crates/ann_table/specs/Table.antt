@@ -10,7 +10,7 @@ use Rattle.ann_table.specs.Node.{Node, node_at, row_pids, apart_rows}
 use Rattle.ann_table.specs.declared.label.Label.{Label}
 
 -- the index's parameters, the rows in order of Pid, and for how many more there is room
-pub record Shown : Type 0 where
+pub record TableView : Type 0 where
   pub params : Params
   pub nodes : List Node
   pub spare : ℕ

@@ -31,9 +31,9 @@ pub struct Table {
 }
 
 impl Model for Table {
-    ghost use Rattle.ann_table.specs.Table.{Shown, nodes_of, AreStored, AreNodes};
+    ghost use Rattle.ann_table.specs.Table.{TableView, nodes_of, AreStored, AreNodes};
 
-    ghost Value = { Shown };
+    ghost Value = { TableView };
 
     ghost view = { λ t. record { params = t.params; nodes = nodes_of t.labels.items t.vectors.lists t.links.lists; spare = t.spare } };
 

@@ -10,11 +10,11 @@ abbrev pub Pids : Type 0
 Pids = FinMap nat_cmp ℕ
 
 -- the Pids by tag, and for how many more tags there is room
-pub record Shown : Type 0 where
+pub record TagsView : Type 0 where
   pub pids : Pids
   pub spare : ℕ
 
-abbrev pub shown_code : Coded Shown
+abbrev pub shown_code : Coded TagsView
 shown_code = code_by (Pids × ℕ) (coded× (code coded_ℕ coded_ℕ) coded_ℕ) (λ s. (s.pids, s.spare)) (λ p. record { pids = p.0; spare = p.1 }) (λ _. refl)
 
 -- the map of a list of pairs, as the live tags of a list of entries are

@@ -16,9 +16,9 @@ pub struct Tags {
 impl Model for Tags {
     ghost use Rattle.std.specs.Prelude.{◌≤◌};
     ghost use Rattle.std.specs.HashMap.{spare as room_of};
-    ghost use Rattle.ann_tags.specs.Tags.{Shown, shown_code, map_of};
+    ghost use Rattle.ann_tags.specs.Tags.{TagsView, shown_code, map_of};
 
-    ghost Value = { Shown };
+    ghost Value = { TagsView };
 
     ghost coded = { shown_code };
 

@@ -15,7 +15,7 @@ use Rattle.ann_types.proofs.Named.{pids_append}
 use Rattle.ann_types.proofs.Graphs.{pids_put}
 use Rattle.ann_segment.specs.Directory.{Item, AreRising}
 use Rattle.ann_segment.specs.Segment.{SegmentView}
-use Rattle.ann_view.specs.View.{Shown, IsMemory, IsView, item_pids, segment_pids, pids_in}
+use Rattle.ann_view.specs.View.{IndexView, IsMemory, IsView, item_pids, segment_pids, pids_in}
 use Rattle.ann_view.specs.Steps.{with_entry_more, with_point_more, with_segment, ended, FitsIn, MayEnd}
 use Rattle.ann_view.proofs.Memories.{memory_inserted, memory_deleted, memory_begun, memory_ended}
 
@@ -81,18 +81,18 @@ later_begun : (o : Option Begun) (at : ℕ) → MatchOption o (Unit {0}) (λ b. 
 later_begun None at h = tt
 later_begun (Some b) at h = omega arith
 
-own_below : {S : Type 0} (view : Shown S) → IsView view → AllByRecursion (λ p. p < view.next) (pids_of view.memory.rw.points)
+own_below : {S : Type 0} (view : IndexView S) → IsView view → AllByRecursion (λ p. p < view.next) (pids_of view.memory.rw.points)
 own_below view w =
     let older : List Point = view.memory.lti.points ++ points_in view.memory.ros in
     let own : AllByRecursion (λ p. p < view.next) (pids_of (all_points view.memory)) = all_right (λ p. p < view.next) (segment_pids view.segment) (pids_of (all_points view.memory)) (below_all view.next (pids_in view.segment view.memory) w.below) in
     all_right (λ p. p < view.next) (pids_of older) (pids_of view.memory.rw.points) (subst (AllByRecursion (λ p. p < view.next)) (pids_append older view.memory.rw.points) own)
 
-pub rw_below : {S : Type 0} (view : Shown S) → IsView view → All (λ (x : Point). x.pid < view.next) view.memory.rw.points
+pub rw_below : {S : Type 0} (view : IndexView S) → IsView view → All (λ (x : Point). x.pid < view.next) view.memory.rw.points
 rw_below view w =
     All-from_recursion (λ (x : Point). x.pid < view.next) view.memory.rw.points
     (all_of_map (λ p. p < view.next) (λ (x : Point). x.pid) view.memory.rw.points (own_below view w))
 
-pub view_pointed : {S : Type 0} (view : Shown S) (memory : State) → IsView view → view.next < pid_end → pids_of (all_points memory) ≡ pids_of (all_points view.memory) ++ view.next ∷ [] → memory.begun ≡ view.memory.begun → IsMemory view.params memory → IsView (with_point_more view memory)
+pub view_pointed : {S : Type 0} (view : IndexView S) (memory : State) → IsView view → view.next < pid_end → pids_of (all_points memory) ≡ pids_of (all_points view.memory) ++ view.next ∷ [] → memory.begun ≡ view.memory.begun → IsMemory view.params memory → IsView (with_point_more view memory)
 view_pointed view memory w small pids same sound =
     let all : List ℕ = pids_in view.segment view.memory in
     let is : pids_in view.segment memory ≡ all ++ view.next ∷ [] = ap (λ t. segment_pids view.segment ++ t) pids ∙ sym (append_assoc (segment_pids view.segment) (pids_of (all_points view.memory)) (view.next ∷ [])) in
@@ -107,7 +107,7 @@ view_pointed view memory w small pids same sound =
       begun = subst (λ (o : Option Begun). MatchOption o (Unit {0}) (λ b. b.position < view.at + 1)) (sym same) (later_begun view.memory.begun view.at w.begun);
     }
 
-pub view_gone_on : {S : Type 0} (view : Shown S) (memory : State) → IsView view → pids_of (all_points memory) ≡ pids_of (all_points view.memory) → MatchOption memory.begun (Unit {0}) (λ b. b.position < view.at + 1) → IsMemory view.params memory → IsView (with_entry_more view memory)
+pub view_gone_on : {S : Type 0} (view : IndexView S) (memory : State) → IsView view → pids_of (all_points memory) ≡ pids_of (all_points view.memory) → MatchOption memory.begun (Unit {0}) (λ b. b.position < view.at + 1) → IsMemory view.params memory → IsView (with_entry_more view memory)
 view_gone_on view memory w pids before sound =
     let is : pids_in view.segment memory ≡ pids_in view.segment view.memory = ap (λ t. segment_pids view.segment ++ t) pids in
     record {
@@ -120,16 +120,16 @@ view_gone_on view memory w pids before sound =
       begun = before;
     }
 
-pub view_inserted : {S : Type 0} (view : Shown S) (tag : ℕ) (vector : List ℕ) → IsView view → FitsIn view vector → IsView (with_point_more view (inserted view.params view.memory view.next tag vector))
+pub view_inserted : {S : Type 0} (view : IndexView S) (tag : ℕ) (vector : List ℕ) → IsView view → FitsIn view vector → IsView (with_point_more view (inserted view.params view.memory view.next tag vector))
 view_inserted view tag vector w fits = view_pointed view (inserted view.params view.memory view.next tag vector) w fits.pid (pids_inserted view.params view.memory view.next tag vector) (begun_inserted view.params view.memory view.next tag vector) (memory_inserted view.params view.memory view.next tag vector (own_below view w) fits.width w.memory)
 
-pub view_replaced : {S : Type 0} (view : Shown S) (gone : List ℕ) (tag : ℕ) (vector : List ℕ) → IsView view → FitsIn view vector → IsView (with_point_more view (inserted view.params (deleted view.memory gone) view.next tag vector))
+pub view_replaced : {S : Type 0} (view : IndexView S) (gone : List ℕ) (tag : ℕ) (vector : List ℕ) → IsView view → FitsIn view vector → IsView (with_point_more view (inserted view.params (deleted view.memory gone) view.next tag vector))
 view_replaced view gone tag vector w fits = view_pointed view (inserted view.params (deleted view.memory gone) view.next tag vector) w fits.pid (pids_inserted view.params (deleted view.memory gone) view.next tag vector) (begun_inserted view.params (deleted view.memory gone) view.next tag vector) (memory_inserted view.params (deleted view.memory gone) view.next tag vector (own_below view w) fits.width (memory_deleted view.params view.memory gone w.memory))
 
-pub view_deleted : {S : Type 0} (view : Shown S) (gone : List ℕ) → IsView view → IsView (with_entry_more view (deleted view.memory gone))
+pub view_deleted : {S : Type 0} (view : IndexView S) (gone : List ℕ) → IsView view → IsView (with_entry_more view (deleted view.memory gone))
 view_deleted view gone w = view_gone_on view (deleted view.memory gone) w refl (later_begun view.memory.begun view.at w.begun) (memory_deleted view.params view.memory gone w.memory)
 
-pub view_begun : {S : Type 0} (view : Shown S) → IsView view → IsView (with_entry_more view (begun_at view.memory view.at))
+pub view_begun : {S : Type 0} (view : IndexView S) → IsView view → IsView (with_entry_more view (begun_at view.memory view.at))
 view_begun view w = view_gone_on view (begun_at view.memory view.at) w (pids_begun view.memory view.at) (omega arith) (memory_begun view.params view.memory view.at w.memory)
 
 -- lists one of which is below the other
@@ -137,7 +137,7 @@ rises_two : (xs ys : List ℕ) → Rises xs → Rises ys → AllByRecursion (λ 
 rises_two [] ys r q a = q
 rises_two (x ∷ xs) ys (h, r) q (b, a) = (all_append (λ y. x < y) xs ys h b, rises_two xs ys r q a)
 
-pub view_ended : {S : Type 0} (view : Shown S) (segment : SegmentView S) → IsView view → AreRising segment.items → MayEnd view segment → IsView (with_segment (with_entry_more view (ended view.memory)) segment)
+pub view_ended : {S : Type 0} (view : IndexView S) (segment : SegmentView S) → IsView view → AreRising segment.items → MayEnd view segment → IsView (with_segment (with_entry_more view (ended view.memory)) segment)
 view_ended view segment w rising may =
     let stay : List Point = all_points (ended view.memory) in
     let cut = pids_ended view.memory view.memory.begun in
@@ -169,7 +169,7 @@ resumed_below items next a =
     subst (All (λ pid. pid < next)) (sym (append-nil (item_pids items)))
     (All-from_recursion (λ pid. pid < next) (item_pids items) (all_map (λ pid. pid < next) (λ (x : Item). x.0) items (recursion_from_All (λ (x : Item). x.0 < next) items a)))
 
-pub memory_rising : {S : Type 0} (view : Shown S) → IsView view → IsStrictlyIncreasing (pids_of (all_points view.memory))
+pub memory_rising : {S : Type 0} (view : IndexView S) → IsView view → IsStrictlyIncreasing (pids_of (all_points view.memory))
 memory_rising view w =
     let own : List ℕ = pids_of (all_points view.memory) in
     increasing_from_rises own (rises_right (segment_pids view.segment) own (rises_from_increasing (pids_in view.segment view.memory) w.rising))

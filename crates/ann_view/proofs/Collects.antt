@@ -16,7 +16,7 @@ use Rattle.ann_segment.specs.Directory.{Item}
 use Rattle.ann_segment.specs.Segment.{SegmentView}
 use Rattle.ann_segment.specs.Holds.{Holds}
 use Rattle.ann_segment.proofs.Holding.{holds_count, holds_row}
-use Rattle.ann_view.specs.View.{Shown, whole, item_pids, segment_pids, pids_in}
+use Rattle.ann_view.specs.View.{IndexView, whole, item_pids, segment_pids, pids_in}
 use Rattle.ann_view.specs.Holding.{HoldsGraph}
 use Rattle.ann_view.specs.Collected.{AddsSegment, StopsInSegment, Begins, Counts, Gathering, HasBegun, HasCollected, Reads, alive_in, live_points, new_pids, pid_in, points_read, row_point_in, rows_below, told_points, undeleted}
 use Rattle.ann_view.proofs.Collecting.{alive_append}
@@ -101,7 +101,7 @@ rows_held params book bytes segment graph parts h =
     (λ i. record { pid = ap (λ (x : Item). x.0) is.item i; tag = ap (λ (n : NodeFields). n.tag) is.node i; vector = ap (λ (n : NodeFields). n.vector) is.node i })
     ∙ sym (get_or-map new_point graph.points row (record { pid = 0; tag = 0; vector = []; links = [] }) none (omega arith)))
 
-module _ {S : Type 0} (tells : Type 0) (bytes : S → List ℕ) (base : Shown S) (bare : base.memory.lti ≡ empty_graph) (parts : length base.book.book ≡ base.params.m) where
+module _ {S : Type 0} (tells : Type 0) (bytes : S → List ℕ) (base : IndexView S) (bare : base.memory.lti ≡ empty_graph) (parts : length base.book.book ≡ base.params.m) where
   abbrev dead : List ℕ
   dead = base.memory.dead
 
@@ -109,7 +109,7 @@ module _ {S : Type 0} (tells : Type 0) (bytes : S → List ℕ) (base : Shown S)
   own = all_points base.memory
 
   -- the view with this segment
-  abbrev over : Option (SegmentView S) → Shown S
+  abbrev over : Option (SegmentView S) → IndexView S
   over segment = record base { segment = segment }
 
   read_held : (segment : Option (SegmentView S)) (lti : Graph) → HoldsGraph bytes (over segment) lti → points_read bytes base.params dead segment ≡ alive_in dead lti.points

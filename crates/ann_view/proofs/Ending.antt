@@ -12,11 +12,11 @@ use Rattle.ann_types.proofs.Sets.{all_weaker}
 use Rattle.ann_laws.proofs.Newer.{behind_newer, next_upto}
 use Rattle.ann_segment.specs.Directory.{Item}
 use Rattle.ann_segment.specs.Segment.{SegmentView}
-use Rattle.ann_view.specs.View.{Shown, index_of}
+use Rattle.ann_view.specs.View.{IndexView, index_of}
 use Rattle.ann_view.specs.Steps.{ended, MayEnd}
 use Rattle.ann_view.specs.Stands.{StandsFor}
 
-module _ {S : Type 0} (view : Shown S) (h : BasedList) (b : Begun) (segment : SegmentView S) (stands : StandsFor view h) (legal : IsLegal (index_of view) h) (begun : (fold_of (index_of view) h).begun ≡ Some b) where
+module _ {S : Type 0} (view : IndexView S) (h : BasedList) (b : Begun) (segment : SegmentView S) (stands : StandsFor view h) (legal : IsLegal (index_of view) h) (begun : (fold_of (index_of view) h).begun ≡ Some b) where
   -- the Pids from this one on are those of points since the Begin
   abbrev bound : ℕ
   bound = next_pid (upto h b.position)

@@ -13,9 +13,9 @@ use Rattle.ann_types.specs.Order.{ascending}
 use Rattle.ann_types.proofs.Sets.{all_of_map, all_right}
 use Rattle.ann_types.proofs.Graphs.{pids_put}
 use Rattle.ann_table.specs.Node.{Node, point_of, graph_of}
-use Rattle.ann_table.specs.Table.{Shown as TableShown}
+use Rattle.ann_table.specs.Table.{TableView}
 use Rattle.ann_table.proofs.Graphs.{length_points}
-use Rattle.ann_frozen.specs.Frozen.{Shown as FrozenShown, frozen_of}
+use Rattle.ann_frozen.specs.Frozen.{FrozenView, frozen_of}
 use Rattle.ann_frozen.proofs.Same.{graph_same}
 use Rattle.ann_types.specs.Merge.{without}
 use Rattle.ann_dead.specs.Pids.{with_pid, IsAscending}
@@ -23,8 +23,8 @@ use Rattle.ann_view.specs.Temp.{Temp, state_of, AreKept, IsOpenOver}
 use Rattle.ann_view.proofs.Deletes.{dead_added}
 
 -- the graphs of frozen rows
-abbrev pub graphs_of : List FrozenShown → List Graph
-graphs_of ros = map (λ (f : FrozenShown). graph_of f.nodes) ros
+abbrev pub graphs_of : List FrozenView → List Graph
+graphs_of ros = map (λ (f : FrozenView). graph_of f.nodes) ros
 
 -- Pids below a number, of points and of their rows
 pub above_nodes : (nodes : List Node) (pid : ℕ) → All (λ (x : Point). x.pid < pid) (graph_of nodes).points → All (λ (x : Node). x.pid < pid) nodes
@@ -62,26 +62,26 @@ abbrev pub with_state : Temp → State → Temp
 with_state old state = record old { state = state }
 
 -- what is kept holds with a graph more that is frozen, and a table without points
-all_more : (params : Params) (ros : List FrozenShown) (more : FrozenShown) → AllByRecursion (λ (f : FrozenShown). f.params ≡ params) ros → more.params ≡ params → AllByRecursion (λ (f : FrozenShown). f.params ≡ params) (ros ++ more ∷ [])
+all_more : (params : Params) (ros : List FrozenView) (more : FrozenView) → AllByRecursion (λ (f : FrozenView). f.params ≡ params) ros → more.params ≡ params → AllByRecursion (λ (f : FrozenView). f.params ≡ params) (ros ++ more ∷ [])
 all_more params [] more all own = (own, tt)
 all_more params (f ∷ fs) more all own = (all.0, all_more params fs more all.1 own)
 
-open_more : (begun : Option Begun) (ros : List FrozenShown) (more : FrozenShown) → IsOpenOver begun (length ros) → IsOpenOver begun (length (ros ++ more ∷ []))
+open_more : (begun : Option Begun) (ros : List FrozenView) (more : FrozenView) → IsOpenOver begun (length ros) → IsOpenOver begun (length (ros ++ more ∷ []))
 open_more None ros more few = tt
 open_more (Some b) ros more few = let size = length_push ros more in omega (arith, few)
 
-pub kept_more : (params : Params) (rw rw' : TableShown) (ros ros' : List FrozenShown) (dead : List ℕ) (begun : Option Begun) (more : FrozenShown) → AreKept params rw ros dead begun → more.params ≡ params → rw' ≡ record { params = params; nodes = []; spare = 0 } → ros' ≡ ros ++ more ∷ [] → AreKept params rw' ros' dead begun
+pub kept_more : (params : Params) (rw rw' : TableView) (ros ros' : List FrozenView) (dead : List ℕ) (begun : Option Begun) (more : FrozenView) → AreKept params rw ros dead begun → more.params ≡ params → rw' ≡ record { params = params; nodes = []; spare = 0 } → ros' ≡ ros ++ more ∷ [] → AreKept params rw' ros' dead begun
 kept_more params rw rw' ros ros' dead begun more kept own empty added = record {
-  table = ap (λ (t : TableShown). t.params) empty;
-  graphs = subst (AllByRecursion (λ (f : FrozenShown). f.params ≡ params)) (sym added) (all_more params ros more kept.graphs own);
-  few = subst (λ (t : TableShown). length t.nodes < params.freeze_at) (sym empty) (let few = kept.few in omega (arith, few));
+  table = ap (λ (t : TableView). t.params) empty;
+  graphs = subst (AllByRecursion (λ (f : FrozenView). f.params ≡ params)) (sym added) (all_more params ros more kept.graphs own);
+  few = subst (λ (t : TableView). length t.nodes < params.freeze_at) (sym empty) (let few = kept.few in omega (arith, few));
   once = kept.once;
-  merge = subst (λ (t : List FrozenShown). IsOpenOver begun (length t)) (sym added) (open_more begun ros more kept.merge);
+  merge = subst (λ (t : List FrozenView). IsOpenOver begun (length t)) (sym added) (open_more begun ros more kept.merge);
 }
 
-module _ (old : Temp) (params : Params) (rw : TableShown) (ros : List FrozenShown) (dead : List ℕ) (begun : Option Begun) (is : temp params (state_of rw ros dead begun) ≡ old) where
+module _ (old : Temp) (params : Params) (rw : TableView) (ros : List FrozenView) (dead : List ℕ) (begun : Option Begun) (is : temp params (state_of rw ros dead begun) ≡ old) where
   -- a point that doesn't fill the graph
-  pub inserted_open : (own : Params) (rw' : TableShown) (pid tag : ℕ) (vector : List ℕ) → own ≡ params → length rw.nodes + 1 < params.freeze_at → graph_of rw'.nodes ≡ put own (graph_of rw.nodes) pid tag vector → temp params (state_of rw' ros dead begun) ≡ with_state old (inserted old.params old.state pid tag vector)
+  pub inserted_open : (own : Params) (rw' : TableView) (pid tag : ℕ) (vector : List ℕ) → own ≡ params → length rw.nodes + 1 < params.freeze_at → graph_of rw'.nodes ≡ put own (graph_of rw.nodes) pid tag vector → temp params (state_of rw' ros dead begun) ≡ with_state old (inserted old.params old.state pid tag vector)
   inserted_open own rw' pid tag vector same few e =
       let s : State = state_of rw ros dead begun in
       let g : Graph = put params s.rw pid tag vector in
@@ -91,12 +91,12 @@ module _ (old : Temp) (params : Params) (rw : TableShown) (ros : List FrozenShow
       ∙ ap (λ (t : Temp). with_state t (inserted t.params t.state pid tag vector)) is
 
   -- the frozen graphs with the rows of a table
-  frozen_push : (own : Params) (full : List Node) → map (λ (f : FrozenShown). graph_of f.nodes) (ros ++ (record { params = own; nodes = frozen_of full }) ∷ []) ≡ map (λ (f : FrozenShown). graph_of f.nodes) ros ++ graph_of full ∷ []
+  frozen_push : (own : Params) (full : List Node) → map (λ (f : FrozenView). graph_of f.nodes) (ros ++ (record { params = own; nodes = frozen_of full }) ∷ []) ≡ map (λ (f : FrozenView). graph_of f.nodes) ros ++ graph_of full ∷ []
   frozen_push own full =
-      map-append (λ (f : FrozenShown). graph_of f.nodes) ros ((record { params = own; nodes = frozen_of full }) ∷ [])
-      ∙ ap (λ (g : Graph). map (λ (f : FrozenShown). graph_of f.nodes) ros ++ g ∷ []) (graph_same full)
+      map-append (λ (f : FrozenView). graph_of f.nodes) ros ((record { params = own; nodes = frozen_of full }) ∷ [])
+      ∙ ap (λ (g : Graph). map (λ (f : FrozenView). graph_of f.nodes) ros ++ g ∷ []) (graph_same full)
 
-  abbrev pub none_left : ℕ → TableShown
+  abbrev pub none_left : ℕ → TableView
   none_left spare = record { params = params; nodes = []; spare = spare }
 
   frozen_is : (own : Params) (full : List Node) (spare : ℕ) → state_of (none_left spare) (ros ++ (record { params = own; nodes = frozen_of full }) ∷ []) dead begun ≡ frozen (state_of rw ros dead begun) (graph_of full)
@@ -134,17 +134,17 @@ module _ (old : Temp) (params : Params) (rw : TableShown) (ros : List FrozenShow
       ap (λ (d : List ℕ). temp params (state_of rw ros d begun)) (e ∙ dead_added dead pid a)
       ∙ ap (λ (t : Temp). with_state t (deleted t.state (pid ∷ []))) is
 
-  pub ended_is : (b : Begun) (ros' : List FrozenShown) (dead' : List ℕ) → begun ≡ Some b → ros' ≡ drop b.frozen ros → dead' ≡ without b.gone dead → temp params (state_of rw ros' dead' None) ≡ with_state old (switched old.state empty_graph old.state.begun)
+  pub ended_is : (b : Begun) (ros' : List FrozenView) (dead' : List ℕ) → begun ≡ Some b → ros' ≡ drop b.frozen ros → dead' ≡ without b.gone dead → temp params (state_of rw ros' dead' None) ≡ with_state old (switched old.state empty_graph old.state.begun)
   ended_is b ros' dead' begins graphs left =
-      ap (λ (t : List FrozenShown). temp params (state_of rw t dead' None)) graphs
-      ∙ ap (λ (t : List Graph). let s : State = record { rw = graph_of rw.nodes; ros = t; lti = empty_graph; dead = dead'; begun = None } in temp params s) (sym (drop-map (λ (f : FrozenShown). graph_of f.nodes) b.frozen ros))
+      ap (λ (t : List FrozenView). temp params (state_of rw t dead' None)) graphs
+      ∙ ap (λ (t : List Graph). let s : State = record { rw = graph_of rw.nodes; ros = t; lti = empty_graph; dead = dead'; begun = None } in temp params s) (sym (drop-map (λ (f : FrozenView). graph_of f.nodes) b.frozen ros))
       ∙ ap (λ (d : List ℕ). let s : State = record { rw = graph_of rw.nodes; ros = drop b.frozen (graphs_of ros); lti = empty_graph; dead = d; begun = None } in temp params s) (left)
       ∙ ap (λ (o : Option Begun). temp params (switched (state_of rw ros dead begun) empty_graph o)) (sym begins)
       ∙ ap (λ (t : Temp). with_state t (switched t.state empty_graph t.state.begun)) is
 
   pub begun_is : (position count : ℕ) (gone : List ℕ) → count ≡ length ros → gone ≡ dead → temp params (state_of rw ros dead (Some (record { position = position; frozen = count; gone = gone }))) ≡ with_state old (opened old.state position)
   begun_is position count gone many all =
-      ap (λ (n : ℕ). let b : Begun = record { position = position; frozen = n; gone = gone } in temp params (state_of rw ros dead (Some b))) (many ∙ sym (length-map ros (λ (f : FrozenShown). graph_of f.nodes)))
+      ap (λ (n : ℕ). let b : Begun = record { position = position; frozen = n; gone = gone } in temp params (state_of rw ros dead (Some b))) (many ∙ sym (length-map ros (λ (f : FrozenView). graph_of f.nodes)))
       ∙ ap (λ (d : List ℕ). let b : Begun = record { position = position; frozen = length (graphs_of ros); gone = d } in temp params (state_of rw ros dead (Some b))) all
       ∙ ap (λ (t : Temp). with_state t (opened t.state position)) is
 
@@ -158,7 +158,7 @@ grown_dead params s g dead =
     elim (eqb (length g.points) params.freeze_at) as (λ t. with_dead (cond t (frozen s g) (record s { rw = g })) dead ≡ cond t (frozen (with_dead s dead) g) (record (with_dead s dead) { rw = g })) [ true ↦ refl | false ↦ refl ]
 
 -- a point is put while another is deleted
-pub replaced_is : (old kept : Temp) (params own : Params) (rw rw' : TableShown) (ros ros' : List FrozenShown) (dead dead' end : List ℕ) (begun begun' : Option Begun) (gone pid tag : ℕ) (vector : List ℕ) → temp params (state_of rw ros dead begun) ≡ old → kept ≡ with_state old (inserted old.params old.state pid tag vector) → temp own (state_of rw' ros' dead' begun') ≡ kept → end ≡ with_pid gone dead → IsAscending dead → temp own (state_of rw' ros' end begun') ≡ with_state old (inserted old.params (deleted old.state (gone ∷ [])) pid tag vector)
+pub replaced_is : (old kept : Temp) (params own : Params) (rw rw' : TableView) (ros ros' : List FrozenView) (dead dead' end : List ℕ) (begun begun' : Option Begun) (gone pid tag : ℕ) (vector : List ℕ) → temp params (state_of rw ros dead begun) ≡ old → kept ≡ with_state old (inserted old.params old.state pid tag vector) → temp own (state_of rw' ros' dead' begun') ≡ kept → end ≡ with_pid gone dead → IsAscending dead → temp own (state_of rw' ros' end begun') ≡ with_state old (inserted old.params (deleted old.state (gone ∷ [])) pid tag vector)
 replaced_is old kept params own rw rw' ros ros' dead dead' end begun begun' gone pid tag vector is made then added a =
     ap (λ (t : Temp). with_state t (with_dead t.state end)) (then ∙ made)
     ∙ ap (with_state old) (grown_dead old.params old.state (put old.params old.state.rw pid tag vector) end)
@@ -169,8 +169,8 @@ pub all_dropped : {A : Type 0} (P : A → Type 0) (n : ℕ) (xs : List A) → Al
 all_dropped P n xs a = all_right P (take n xs) (drop n xs) (subst (AllByRecursion P) (sym (take-append-drop n xs)) a)
 
 -- the frozen graphs that an open merge takes
-pub taken_are : (old : Temp) (params : Params) (rw : TableShown) (ros first : List FrozenShown) (dead : List ℕ) (begun : Option Begun) (b : Begun) (count : ℕ) → temp params (state_of rw ros dead begun) ≡ old → begun ≡ Some b → count ≡ b.frozen → first ≡ take count ros → MatchOption old.state.begun ⊥ (λ (o : Begun). graphs_of first ≡ take o.frozen old.state.ros)
+pub taken_are : (old : Temp) (params : Params) (rw : TableView) (ros first : List FrozenView) (dead : List ℕ) (begun : Option Begun) (b : Begun) (count : ℕ) → temp params (state_of rw ros dead begun) ≡ old → begun ≡ Some b → count ≡ b.frozen → first ≡ take count ros → MatchOption old.state.begun ⊥ (λ (o : Begun). graphs_of first ≡ take o.frozen old.state.ros)
 taken_are old params rw ros first dead begun b count is begins many e =
     subst (λ (t : Temp). MatchOption t.state.begun ⊥ (λ (o : Begun). graphs_of first ≡ take o.frozen t.state.ros)) is
     (subst (λ (o : Option Begun). MatchOption o ⊥ (λ (b : Begun). graphs_of first ≡ take b.frozen (graphs_of ros))) (sym begins)
-    (ap graphs_of (e ∙ ap (λ n. take n ros) many) ∙ sym (take-map (λ (f : FrozenShown). graph_of f.nodes) b.frozen ros)))
+    (ap graphs_of (e ∙ ap (λ n. take n ros) many) ∙ sym (take-map (λ (f : FrozenView). graph_of f.nodes) b.frozen ros)))

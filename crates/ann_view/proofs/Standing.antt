@@ -15,7 +15,7 @@ use Rattle.ann_segment.specs.Segment.{SegmentView}
 use Rattle.ann_segment.specs.Holds.{Holds}
 use Rattle.std.specs.declared.sync.Arc.{Arc}
 use Rattle.std.specs.declared.alloc.Global.{Global}
-use Rattle.ann_view.specs.View.{Shown, index_of, whole}
+use Rattle.ann_view.specs.View.{IndexView, index_of, whole}
 use Rattle.ann_view.specs.Steps.{applied}
 use Rattle.ann_view.specs.Stands.{StandsFor, IsEntryOf, lti_of}
 use Rattle.ann_beam.specs.Quest.{HoldsIn}
@@ -52,7 +52,7 @@ next_more h e next n is one = let more = next_pid_push h e in omega arith
 own_lti : (s m : State) (lti : Graph) → s ≡ over m lti → s ≡ over m s.lti
 own_lti s m lti e = e ∙ ap (over m) (sym (ap (λ (t : State). t.lti) e))
 
-module _ {S : Type 0} (view : Shown S) (h : BasedList) (w : StandsFor view h) where
+module _ {S : Type 0} (view : IndexView S) (h : BasedList) (w : StandsFor view h) where
   abbrev index : Index
   index = index_of view
 
@@ -60,7 +60,7 @@ module _ {S : Type 0} (view : Shown S) (h : BasedList) (w : StandsFor view h) wh
   lti = lti_of view h
 
   -- the state of the list with an entry is this one, over some long-term graph
-  stands_with : (e : Entry) (after : Shown S) (end : Graph) (n : ℕ) → index_of after ≡ index → after.at ≡ view.at + 1 → after.next ≡ view.next + n → cond (makes_point e) 1 0 ≡ n → step index h (whole view lti) e ≡ over after.memory end → StandsFor after (with_entry h e)
+  stands_with : (e : Entry) (after : IndexView S) (end : Graph) (n : ℕ) → index_of after ≡ index → after.at ≡ view.at + 1 → after.next ≡ view.next + n → cond (makes_point e) 1 0 ≡ n → step index h (whole view lti) e ≡ over after.memory end → StandsFor after (with_entry h e)
   stands_with e after end n same at next one is = record {
     at = at ∙ length_more h e view.at w.at;
     next = next ∙ next_more h e view.next n w.next one;

@@ -28,7 +28,7 @@ use Rattle.ann_beam.specs.Found.{VisitsGraph}
 use Rattle.ann_beam.proofs.Rankings.{with_all-append}
 use Rattle.ann_view.specs.Near.{AreInside}
 use Rattle.ann_view.specs.Search.{near_memory, ranked_of, near_result, quest_by, quest_in, IsAnswered, IsNearOf}
-use Rattle.ann_view.specs.View.{Shown, IsMemory, IsView, index_of, whole, segment_pids, item_pids, pids_in}
+use Rattle.ann_view.specs.View.{IndexView, IsMemory, IsView, index_of, whole, segment_pids, item_pids, pids_in}
 use Rattle.ann_view.specs.Pinned.{PinnedView}
 use Rattle.ann_view.specs.Stands.{StandsFor, lti_of}
 use Rattle.ann_view.specs.Holding.{HoldsGraph}
@@ -146,7 +146,7 @@ graph_held : {S : Type 0} (bytes : S → List ℕ) (params : Params) (book : Boo
 graph_held bytes params book None lti h = subst (IsGraphOf params) (sym h) (empty_is_graph params)
 graph_held bytes params book (Some segment) lti h = h.sound
 
-module _ {S : Type 0} (bytes : S → List ℕ) (view : Shown S) (ask : Ask) (sound : IsView view) where
+module _ {S : Type 0} (bytes : S → List ℕ) (view : IndexView S) (ask : Ask) (sound : IsView view) where
   pub view_hits : (lti : Graph) → HoldsGraph bytes view lti → (old : RankingView) (points : List Ranked) → old ≡ near_result view.memory ask → points ≡ with_all old.limit (long_of view.memory.dead view.book.book lti ask.vector ask.l view.params.w) old.points → map hit_of points ≡ hits (index_of view) (whole view lti) ask.k ask.l ask.vector
   view_hits lti holds old points is e =
       let rising : Rises (pids_in view.segment view.memory) = rises_from_increasing (pids_in view.segment view.memory) sound.rising in
@@ -170,7 +170,7 @@ module _ {S : Type 0} (bytes : S → List ℕ) (view : Shown S) (ask : Ask) (sou
       }
 
 -- the same by a pin
-pub pin_answers : {S : Type 0} (bytes : S → List ℕ) (view : Shown S) (ask : Ask) (pin : PinnedView S) (old new : Standing) → IsNearOf pin ask old.result view → ((lti : Graph) → HoldsIn bytes pin.params pin.book.book pin.segment lti → VisitsGraph (quest_by pin ask) lti old new) → IsAnswered bytes view ask new.result.points
+pub pin_answers : {S : Type 0} (bytes : S → List ℕ) (view : IndexView S) (ask : Ask) (pin : PinnedView S) (old new : Standing) → IsNearOf pin ask old.result view → ((lti : Graph) → HoldsIn bytes pin.params pin.book.book pin.segment lti → VisitsGraph (quest_by pin ask) lti old new) → IsAnswered bytes view ask new.result.points
 pin_answers {S = S} bytes view ask pin old new near visits =
     view_answers bytes view ask near.sound old new near.near
     (subst (λ (p : PinnedView S). (lti : Graph) → HoldsIn bytes p.params p.book.book p.segment lti → VisitsGraph (quest_by p ask) lti old new) (sym near.pinned) visits)

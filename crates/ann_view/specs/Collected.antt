@@ -12,7 +12,7 @@ use Rattle.ann_vault.specs.Reads.{more_reads}
 use Rattle.ann_segment.specs.Directory.{item_of}
 use Rattle.ann_segment.specs.Segment.{SegmentView, node_block}
 use Rattle.ann_beam.specs.Visits.{judged, node_in, row_block}
-use Rattle.ann_view.specs.View.{Shown, whole, pids_in}
+use Rattle.ann_view.specs.View.{IndexView, whole, pids_in}
 use Rattle.ann_view.specs.Holding.{HoldsGraph}
 use Rattle.ann_view.specs.declared.collect_refused.CollectRefused.{CollectRefused}
 use Rattle.ann_view.specs.declared.collect_refused.CollectRefused.TheVariants.{Disk, BadSegment, Memory}
@@ -65,7 +65,7 @@ AreSound bytes params (Some segment) =
     AllByRecursion (λ row. judged segment params (row_block segment (bytes segment.seal) row) row ≡ None) (rows_below (length segment.items))
 
 -- the live points of a view, whose long-term points these bytes have
-abbrev pub told_points : {S : Type 0} → (S → List ℕ) → Shown S → List NewPoint
+abbrev pub told_points : {S : Type 0} → (S → List ℕ) → IndexView S → List NewPoint
 told_points bytes view =
     points_read bytes view.params view.memory.dead view.segment ++ alive_in view.memory.dead (all_points view.memory)
 
@@ -83,7 +83,7 @@ pub record Reads (old new : Counts) : Type 0 where
 
 -- each live point is there once, in order of Pid, and the block of each row was read once; told, they are what is sealed,
 -- and so those of the graph that the segment holds
-pub record HasCollected {S : Type 0} (tells : Type 0) (bytes : S → List ℕ) (view : Shown S) (points : List NewPoint) (old new : Counts) : Type 0 where
+pub record HasCollected {S : Type 0} (tells : Type 0) (bytes : S → List ℕ) (view : IndexView S) (points : List NewPoint) (old new : Counts) : Type 0 where
   pub pids : new_pids points ≡ without view.memory.dead (pids_in view.segment view.memory)
   pub memory : (front : List NewPoint) × (points ≡ front ++ alive_in view.memory.dead (all_points view.memory))
   pub told : tells → points ≡ told_points bytes view
@@ -97,7 +97,7 @@ abbrev pub Begins : {A : Type 0} → List A → List A → Type 0
 Begins {A} front all = (rest : List A) × (all ≡ front ++ rest)
 
 -- after a refusal the first ones are there
-pub record HasBegun {S : Type 0} (tells : Type 0) (bytes : S → List ℕ) (view : Shown S) (points : List NewPoint) : Type 0 where
+pub record HasBegun {S : Type 0} (tells : Type 0) (bytes : S → List ℕ) (view : IndexView S) (points : List NewPoint) : Type 0 where
   pub pids : Begins (new_pids points) (without view.memory.dead (pids_in view.segment view.memory))
   pub told : tells → Begins points (told_points bytes view)
   pub held : tells → (lti : Graph) → HoldsGraph bytes view lti → Begins points (live_points (whole view lti))

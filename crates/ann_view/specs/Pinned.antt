@@ -7,7 +7,7 @@ use Rattle.std.specs.declared.alloc.Global.{Global}
 use Rattle.ann_types.specs.declared.params.Params.{Params}
 use Rattle.ann_pq.specs.Codebook.{CodebookView}
 use Rattle.ann_segment.specs.Segment.{SegmentView}
-use Rattle.ann_view.specs.View.{Shown}
+use Rattle.ann_view.specs.View.{IndexView}
 
 -- what a search of the long-term graph needs of a view
 pub record PinnedView (S : Type 0) : Type 0 where
@@ -17,7 +17,7 @@ pub record PinnedView (S : Type 0) : Type 0 where
   pub dead : List ℕ
   pub segment : Option (SegmentView S)
 
-abbrev pub pinned : {S : Type 0} → Shown S → PinnedView S
+abbrev pub pinned : {S : Type 0} → IndexView S → PinnedView S
 pinned view = record { params = view.params; book = view.book; at = view.at; dead = view.memory.dead; segment = view.segment }
 
 -- what it holds has the index's sizes

@@ -11,7 +11,7 @@ use Rattle.ann_types.specs.declared.ask.Ask.{Ask}
 use Rattle.ann_types.specs.declared.hit.Hit.{Hit}
 use Rattle.ann_beam.specs.Ranking.{Ranked, RankingView, hit_of, rank}
 use Rattle.ann_beam.specs.Quest.{Quest, Standing, quest_of}
-use Rattle.ann_view.specs.View.{Shown, IsView, index_of, whole}
+use Rattle.ann_view.specs.View.{IndexView, IsView, index_of, whole}
 use Rattle.ann_view.specs.Pinned.{PinnedView, pinned}
 use Rattle.ann_view.specs.Stands.{StandsFor, lti_of}
 use Rattle.ann_view.specs.Holding.{HoldsGraph}
@@ -38,22 +38,22 @@ near_result memory ask = record {
 abbrev pub quest_by : {S : Type 0} → PinnedView S → Ask → Quest S
 quest_by pin ask = quest_of pin.segment pin.params pin.book pin.dead ask
 
-abbrev pub quest_in : {S : Type 0} → Shown S → Ask → Quest S
+abbrev pub quest_in : {S : Type 0} → IndexView S → Ask → Quest S
 quest_in view ask = quest_by (pinned view) ask
 
 -- the search of the graphs in memory of a view is done
-abbrev pub from_near : {S : Type 0} → Shown S → Ask → Standing → Standing
+abbrev pub from_near : {S : Type 0} → IndexView S → Ask → Standing → Standing
 from_near view ask old = record old { result = near_result view.memory ask }
 
 -- what stands on a desk is what the search of the graphs in memory of a view left there, which was pinned
-pub record IsNearOf {S : Type 0} (pin : PinnedView S) (ask : Ask) (result : RankingView) (view : Shown S) : Type 0 where
+pub record IsNearOf {S : Type 0} (pin : PinnedView S) (ask : Ask) (result : RankingView) (view : IndexView S) : Type 0 where
   pub sound : IsView view
   pub pinned : pinned view ≡ pin
   pub near : result ≡ near_result view.memory ask
 
 -- what stands on a desk answers an ask: it is what the definition finds in the view's state with the long-term graph that
 -- its segment holds; so it is the answer of each list for which the view stands, and where that is legal its tags are live
-pub record IsAnswered {S : Type 0} (bytes : S → List ℕ) (view : Shown S) (ask : Ask) (points : List Ranked) : Type 0 where
+pub record IsAnswered {S : Type 0} (bytes : S → List ℕ) (view : IndexView S) (ask : Ask) (points : List Ranked) : Type 0 where
   pub found : (lti : Graph) → HoldsGraph bytes view lti → map hit_of points ≡ hits (index_of view) (whole view lti) ask.k ask.l ask.vector
   pub answer : (h : BasedList) → StandsFor view h → HoldsGraph bytes view (lti_of view h) → map hit_of points ≡ answer (index_of view) h ask
   pub live : (h : BasedList) → StandsFor view h → HoldsGraph bytes view (lti_of view h) → IsLegal (index_of view) h → All (λ (x : Hit). IsTrue (is_live (live_of h) x.tag)) (map hit_of points)

@@ -5,16 +5,16 @@ use Rattle.ann_types.specs.Fold.{fold_of}
 use Rattle.ann_types.specs.Graph.{Graph}
 use Rattle.ann_types.specs.declared.entry.Entry.{Entry}
 use Rattle.ann_types.specs.declared.entry.Entry.TheVariants.{Insert as InsertEntry, Delete as DeleteEntry, Begin as BeginEntry, End as EndEntry, Replace as ReplaceEntry}
-use Rattle.ann_view.specs.View.{Shown, index_of, whole}
+use Rattle.ann_view.specs.View.{IndexView, index_of, whole}
 use Rattle.ann_view.specs.declared.op.Op.{Op}
 use Rattle.ann_view.specs.declared.op.Op.TheVariants.{Insert, Delete, Replace, Begin, End, Close}
 
 -- the long-term graph that a list leaves
-abbrev pub lti_of : {S : Type 0} → Shown S → BasedList → Graph
+abbrev pub lti_of : {S : Type 0} → IndexView S → BasedList → Graph
 lti_of view h = (fold_of (index_of view) h).lti
 
 -- a view stands for each list of its length and its next Pid that leaves what it has in memory
-pub record StandsFor {S : Type 0} (view : Shown S) (h : BasedList) : Type 0 where
+pub record StandsFor {S : Type 0} (view : IndexView S) (h : BasedList) : Type 0 where
   pub at : view.at ≡ length_of h
   pub next : view.next ≡ next_pid h
   pub state : fold_of (index_of view) h ≡ whole view (lti_of view h)

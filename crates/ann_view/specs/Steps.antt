@@ -5,16 +5,16 @@ use Rattle.ann_types.specs.Fold.{State, all_points, inserted, deleted, begun_at,
 use Rattle.ann_types.specs.Legal.{pid_end}
 use Rattle.ann_segment.specs.Directory.{Item}
 use Rattle.ann_segment.specs.Segment.{SegmentView}
-use Rattle.ann_view.specs.View.{Shown}
+use Rattle.ann_view.specs.View.{IndexView}
 use Rattle.ann_view.specs.declared.op.Op.{Op}
 use Rattle.ann_view.specs.declared.op.Op.TheVariants.{Insert, Delete, Replace, Begin, End, Close}
 
 -- a view with one entry more, which leaves this state in memory
-abbrev pub with_entry_more : {S : Type 0} → Shown S → State → Shown S
+abbrev pub with_entry_more : {S : Type 0} → IndexView S → State → IndexView S
 with_entry_more view memory = record view { at = view.at + 1; memory = memory }
 
 -- the same, of an entry that makes a point
-abbrev pub with_point_more : {S : Type 0} → Shown S → State → Shown S
+abbrev pub with_point_more : {S : Type 0} → IndexView S → State → IndexView S
 with_point_more view memory = record view { at = view.at + 1; next = view.next + 1; memory = memory }
 
 -- the state in memory once the open merge ends
@@ -22,11 +22,11 @@ abbrev pub ended : State → State
 ended memory = switched memory empty_graph memory.begun
 
 -- the same view with another segment
-abbrev pub with_segment : {S : Type 0} → Shown S → SegmentView S → Shown S
+abbrev pub with_segment : {S : Type 0} → IndexView S → SegmentView S → IndexView S
 with_segment view segment = record view { segment = Some segment }
 
 -- the view after an operation
-abbrev pub applied : {S : Type 0} → Shown S → Op S → Shown S
+abbrev pub applied : {S : Type 0} → IndexView S → Op S → IndexView S
 applied view (Insert tag vector) = with_point_more view (inserted view.params view.memory view.next tag vector)
 applied view (Delete pid) = with_entry_more view (deleted view.memory (pid ∷ []))
 applied view (Replace tag gone vector) =
@@ -36,19 +36,19 @@ applied view (End segment) = with_segment (with_entry_more view (ended view.memo
 applied view Close = record view { closed = true }
 
 -- a vector has d components, and there is a Pid for its point
-pub record FitsIn {S : Type 0} (view : Shown S) (vector : List ℕ) : Type 0 where
+pub record FitsIn {S : Type 0} (view : IndexView S) (vector : List ℕ) : Type 0 where
   pub width : length vector ≡ view.params.d
   pub pid : view.next < pid_end
 
 -- a merge is open, and what this segment holds is older than the points that stay in memory
-pub record MayEnd {S : Type 0} (view : Shown S) (segment : SegmentView S) : Type 0 where
+pub record MayEnd {S : Type 0} (view : IndexView S) (segment : SegmentView S) : Type 0 where
   pub begun : IsSome view.memory.begun
   pub code_bytes : segment.m ≡ view.params.m
   pub below : All (λ (x : Item). x.0 < view.next) segment.items
   pub older : All (λ (x : Item). All (λ (y : Point). x.0 < y.pid) (all_points (ended view.memory))) segment.items
 
 -- an operation may be applied
-abbrev pub MayApply : {S : Type 0} → Shown S → Op S → Type 0
+abbrev pub MayApply : {S : Type 0} → IndexView S → Op S → Type 0
 MayApply view (Insert tag vector) = FitsIn view vector
 MayApply view (Delete pid) = Unit {0}
 MayApply view (Replace tag gone vector) = FitsIn view vector

@@ -17,7 +17,7 @@ use Rattle.ann_view.specs.Temp.{Temp}
 
 -- the index's parameters and codebook; how many entries lead to it and the next Pid; the state without its long-term
 -- graph; the segment that holds that graph, if there is one; and whether it was closed
-pub record Shown (S : Type 0) : Type 0 where
+pub record IndexView (S : Type 0) : Type 0 where
   pub params : Params
   pub book : CodebookView
   pub at : ℕ
@@ -27,15 +27,15 @@ pub record Shown (S : Type 0) : Type 0 where
   pub closed : Bool
 
 -- a view with nothing in memory
-abbrev pub opening : {S : Type 0} → Params → CodebookView → ℕ → ℕ → Option (SegmentView S) → Shown S
+abbrev pub opening : {S : Type 0} → Params → CodebookView → ℕ → ℕ → Option (SegmentView S) → IndexView S
 opening params book at next segment =
     record { params = params; book = book; at = at; next = next; memory = start empty_graph; segment = segment; closed = false }
 
 -- its index, and its state where this is the long-term graph
-abbrev pub index_of : {S : Type 0} → Shown S → Index
+abbrev pub index_of : {S : Type 0} → IndexView S → Index
 index_of view = record { params = view.params; book = view.book.book }
 
-abbrev pub whole : {S : Type 0} → Shown S → Graph → State
+abbrev pub whole : {S : Type 0} → IndexView S → Graph → State
 whole view lti = record view.memory { lti = lti }
 
 -- ---- what is true of every view
@@ -59,7 +59,7 @@ pub record IsMemory (params : Params) (memory : State) : Type 0 where
   pub ros : All (IsGraphOf params) memory.ros
 
 -- Pids rise with age and are below the next one; what it holds is of the index; and an open merge has begun before
-pub record IsView {S : Type 0} (view : Shown S) : Type 0 where
+pub record IsView {S : Type 0} (view : IndexView S) : Type 0 where
   pub rising : IsStrictlyIncreasing (pids_in view.segment view.memory)
   pub below : All (λ pid. pid < view.next) (pids_in view.segment view.memory)
   pub next : view.next ≤ pid_end
@@ -70,7 +70,7 @@ pub record IsView {S : Type 0} (view : Shown S) : Type 0 where
 
 -- ---- how it is kept
 
-abbrev pub shown : {S : Type 0} → Temp → Arc CodebookView Global → ℕ → ℕ → Option (Arc (SegmentView S) Global) → Bool → Shown S
+abbrev pub shown : {S : Type 0} → Temp → Arc CodebookView Global → ℕ → ℕ → Option (Arc (SegmentView S) Global) → Bool → IndexView S
 shown temp book at next segment closed = record {
   params = temp.params;
   book = book.value;

@@ -3,7 +3,7 @@ ghost use Rattle.std.specs.Prelude.{◌≡◌, ◌<◌, ◌∷◌, ◌++◌, [],
 ghost use Rattle.std.specs.Arc.{arc_value};
 ghost use Rattle.std.specs.Option.{option_map};
 ghost use Rattle.ann_table.specs.Node.{graph_of, node_at, point_of};
-ghost use Rattle.ann_frozen.specs.Frozen.{Shown as FrozenShown};
+ghost use Rattle.ann_frozen.specs.Frozen.{FrozenView};
 ghost use Rattle.ann_view.specs.Collected.{AddsSegment, Begins, HasAdded, HasBegun, HasCollected};
 ghost use Rattle.ann_view.specs.Collected.{IsUncollected, StopsIn, StopsInSegment};
 ghost use Rattle.ann_view.specs.Collected.{alive_in, counts_of, gathering, rows_below};
@@ -75,9 +75,9 @@ pub(crate) fn add_frozen(
     out: &mut PointList,
 ) -> Result<(), AllocError>
     ensures added { OnOk result (out.new ≡ out.old ++ alive_in dead.now
-        (flat_map (λ (f : FrozenShown). (graph_of f.nodes).points) (map arc_value graphs.now))) }
+        (flat_map (λ (f : FrozenView). (graph_of f.nodes).points) (map arc_value graphs.now))) }
     ensures begun { OnErr result (Begins out.new (out.old ++ alive_in dead.now
-        (flat_map (λ (f : FrozenShown). (graph_of f.nodes).points) (map arc_value graphs.now)))) }
+        (flat_map (λ (f : FrozenView). (graph_of f.nodes).points) (map arc_value graphs.now)))) }
 {
     for graph in graphs {
         let frozen: &Frozen = graph;

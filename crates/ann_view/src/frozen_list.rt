@@ -17,9 +17,9 @@ pub(crate) struct FrozenList {
 impl Model for FrozenList {
     ghost use Rattle.std.specs.Prelude.{List, map};
     ghost use Rattle.std.specs.Arc.{arc_value};
-    ghost use Rattle.ann_frozen.specs.Frozen.{Shown};
+    ghost use Rattle.ann_frozen.specs.Frozen.{FrozenView};
 
-    ghost Value = { List Shown };
+    ghost Value = { List FrozenView };
 
     ghost view = { λ l. map arc_value l.graphs.items };
 }

@@ -6,7 +6,7 @@ ghost use Rattle.ann_types.specs.declared.params.Params.{Params};
 ghost use Rattle.ann_greedy.specs.Shows.{AreRows};
 ghost use Rattle.ann_table.specs.Node.{Node, node_at, row_pid, rows_of, graph_of};
 ghost use Rattle.ann_table.specs.Table.{AreNodes};
-ghost use Rattle.ann_frozen.specs.Frozen.{Shown as FrozenShown};
+ghost use Rattle.ann_frozen.specs.Frozen.{FrozenView};
 ghost use Rattle.ann_beam.specs.Desk.{result_of};
 ghost use Rattle.ann_beam.specs.Ranking.{with_all};
 ghost use Rattle.ann_beam.specs.Visits.{alive};
@@ -127,15 +127,15 @@ pub(crate) fn add_near<G: Named>(graph: &G, dead: &Dead, desk: &mut Desk, ask: &
 
 /// The same of each of some frozen graphs.
 pub(crate) fn add_near_frozen(graphs: &[Arc<Frozen>], dead: &Dead, desk: &mut Desk, ask: &Ask)
-    requires { AllByRecursion (λ (f : FrozenShown). length ask.now.vector ≡ f.params.d)
+    requires { AllByRecursion (λ (f : FrozenView). length ask.now.vector ≡ f.params.d)
         (map arc_value graphs.now) }
     ensures limit { (result_of desk.new).limit ≡ (result_of desk.old).limit }
     ensures points { (result_of desk.new).points ≡ with_all (result_of desk.old).limit
-        (flat_map (λ (f : FrozenShown). near_points dead.now (graph_of f.nodes) ask.now.vector ask.now.l)
+        (flat_map (λ (f : FrozenView). near_points dead.now (graph_of f.nodes) ask.now.vector ask.now.l)
         (map arc_value graphs.now))
         (result_of desk.old).points }
     ensures inside { AllByRecursion
-        (λ (f : FrozenShown). AreInside ask.now.vector ask.now.l (graph_of f.nodes))
+        (λ (f : FrozenView). AreInside ask.now.vector ask.now.l (graph_of f.nodes))
         (map arc_value graphs.now) }
 {
     for graph in graphs {

@@ -6,7 +6,7 @@ ghost use Rattle.ann_beam.specs.Desk.{result_of, standing};
 ghost use Rattle.ann_beam.specs.Found.{IsSearched};
 ghost use Rattle.ann_beam.specs.Quest.{Fits, quest_of};
 ghost use Rattle.ann_beam.specs.declared.refused.SearchRefused.TheVariants.{Dimension};
-ghost use Rattle.ann_view.specs.View.{Shown};
+ghost use Rattle.ann_view.specs.View.{IndexView};
 ghost use Rattle.ann_view.specs.Search.{IsAnswered, IsNearOf, from_near, near_result, quest_by, quest_in};
 
 use crate::pinned::Pinned;
@@ -73,14 +73,14 @@ impl<S: Sealed> Pinned<S> {
         ask: &Ask,
     ) -> Result<Found, SearchRefused>
         requires width { length ask.now.vector ≡ self.params.d }
-        requires near { (view : Shown S) × IsNearOf self ask.now (result_of desk.old) view }
+        requires near { (view : IndexView S) × IsNearOf self ask.now (result_of desk.old) view }
         ensures at { IfOk result (λ found. found.at ≡ self.at) }
         ensures searched { IsSearched S.tells S.bytes (quest_by self ask.now)
             (standing desk.old (E.reads eye.old) (E.faults eye.old))
             (standing desk.new (E.reads eye.new) (E.faults eye.new)) result }
 
         // It finds the answer of the state that was pinned.
-        ensures answered { S.tells → (view : Shown S) → IsNearOf self ask.now (result_of desk.old) view →
+        ensures answered { S.tells → (view : IndexView S) → IsNearOf self ask.now (result_of desk.old) view →
             OnOk result (IsAnswered S.bytes view ask.now (result_of desk.new).points) }
         ensures emptied { OnErr result ((result_of desk.new).points ≡ []) }
     {

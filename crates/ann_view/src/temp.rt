@@ -5,7 +5,7 @@ ghost use Rattle.ann_types.specs.Graph.{Point, empty_graph, is_empty, pids_of};
 ghost use Rattle.ann_types.specs.Fold.{inserted, deleted, frozen, begun_at, switched, start, all_points};
 ghost use Rattle.ann_types.specs.Legal.{has_work};
 ghost use Rattle.ann_table.specs.Node.{Node, graph_of};
-ghost use Rattle.ann_frozen.specs.Frozen.{Shown as FrozenShown};
+ghost use Rattle.ann_frozen.specs.Frozen.{FrozenView};
 ghost use Rattle.ann_beam.specs.Desk.{result_of};
 ghost use Rattle.ann_view.specs.Temp.{IsTemp, IsFrozenWith, with_state};
 ghost use Rattle.ann_view.specs.Search.{near_result};
@@ -248,10 +248,10 @@ impl TempIndex {
     pub(crate) fn frozen_of_begin(&self) -> Result<Vec<Arc<Frozen>>, AllocError>
         requires { IsSome self.now.state.begun }
         ensures graphs { IfOk result (λ graphs. MatchOption self.now.state.begun ⊥
-            (λ b. map (λ (f : FrozenShown). graph_of f.nodes) (map arc_value graphs.items)
+            (λ b. map (λ (f : FrozenView). graph_of f.nodes) (map arc_value graphs.items)
             ≡ take b.frozen self.now.state.ros)) }
         ensures params { IfOk result (λ graphs.
-            All (λ (f : FrozenShown). f.params ≡ self.now.params) (map arc_value graphs.items)) }
+            All (λ (f : FrozenView). f.params ≡ self.now.params) (map arc_value graphs.items)) }
     {
         match &self.begun {
             Some(begun) => self.ros.first(begun.frozen()),

@@ -3,7 +3,7 @@ ghost use Rattle.std.specs.Arc.{arc_value};
 ghost use Rattle.std.specs.Option.{option_map};
 ghost use Rattle.ann_types.specs.Legal.{has_work};
 ghost use Rattle.ann_table.specs.Node.{graph_of};
-ghost use Rattle.ann_frozen.specs.Frozen.{Shown as FrozenShown};
+ghost use Rattle.ann_frozen.specs.Frozen.{FrozenView};
 ghost use Rattle.ann_segment.specs.Directory.{Item};
 ghost use Rattle.ann_view.specs.Temp.{IsTemp};
 ghost use Rattle.ann_view.specs.View.{IsView, opening};
@@ -36,9 +36,9 @@ pub struct View<S: Sealed> {
 }
 
 impl<S: Sealed> Model for View<S> {
-    ghost use Rattle.ann_view.specs.View.{Shown, IsView, shown};
+    ghost use Rattle.ann_view.specs.View.{IndexView, IsView, shown};
 
-    ghost Value = { Shown S };
+    ghost Value = { IndexView S };
 
     ghost view = { λ v. shown v.temp v.book v.at v.next v.segment v.closed };
 
@@ -106,10 +106,10 @@ impl<S: Sealed> View<S> {
     pub fn frozen_of_begin(&self) -> Result<Vec<Arc<Frozen>>, AllocError>
         requires { IsSome self.now.memory.begun }
         ensures graphs { IfOk result (λ graphs. MatchOption self.now.memory.begun ⊥
-            (λ b. map (λ (f : FrozenShown). graph_of f.nodes) (map arc_value graphs.items)
+            (λ b. map (λ (f : FrozenView). graph_of f.nodes) (map arc_value graphs.items)
             ≡ take b.frozen self.now.memory.ros)) }
         ensures params { IfOk result (λ graphs.
-            All (λ (f : FrozenShown). f.params ≡ self.now.params) (map arc_value graphs.items)) }
+            All (λ (f : FrozenView). f.params ≡ self.now.params) (map arc_value graphs.items)) }
     {
         self.temp.frozen_of_begin()
     }

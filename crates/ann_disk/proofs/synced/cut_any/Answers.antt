@@ -20,6 +20,6 @@ returns-clause-during g c told =
     let here = g.met.F.LogFile.reads_an_image c.args.file.now told in
     let mid = started D.past D.unsynced c.args.file.now c.cut.new.self (BeginsAnImage u) (c.cut.ensures.past told)
     (λ image is. cut_begins u image c.args.to (omega (arith, here.no_shorter, here.no_longer)) (subst (λ v. IsImage v image) (c.cut.ensures.images told) is)) in
-    after_sync D.past D.unsynced c.args.file.now c.cut.new.self c.sync.new.self (BeginsAnImage u) (D.seen c.cut.new.self) c.sync.result mid
+    after_sync D.past D.unsynced D.seen c.args.file.now c.cut.new.self c.sync.new.self (BeginsAnImage u) (D.seen c.cut.new.self) c.sync.result mid
     (c.sync.ensures.images told) (c.sync.ensures.past told) (c.sync.ensures.failed told)
     (mid.now (D.seen c.cut.new.self) (g.met.F.LogFile.reads_an_image c.cut.new.self told))

@@ -20,6 +20,6 @@ returns-clause-during g c told =
     let images : D.unsynced c.cut.new.self ≡ after_cut c.args.to (clean seen) = c.cut.ensures.images told ∙ ap (after_cut c.args.to) (c.requires.rest told) in
     let mid = started D.past D.unsynced c.args.file.now c.cut.new.self (Cut c.args.to seen) (c.cut.ensures.past told)
     (λ image is. cut_short c.args.to seen image (c.requires.place told) (subst (λ u. IsImage u image) images is)) in
-    after_sync D.past D.unsynced c.args.file.now c.cut.new.self c.sync.new.self (Cut c.args.to seen) (D.seen c.cut.new.self) c.sync.result mid
+    after_sync D.past D.unsynced D.seen c.args.file.now c.cut.new.self c.sync.new.self (Cut c.args.to seen) (D.seen c.cut.new.self) c.sync.result mid
     (c.sync.ensures.images told) (c.sync.ensures.past told) (c.sync.ensures.failed told)
     (mid.now (D.seen c.cut.new.self) (g.met.F.LogFile.reads_an_image c.cut.new.self told))

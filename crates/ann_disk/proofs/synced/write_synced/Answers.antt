@@ -22,6 +22,6 @@ returns-clause-during g c told =
     let images : D.unsynced c.write_at.new.self ≡ after_write c.args.at n (clean seen) = c.write_at.ensures.images told ∙ ap (after_write c.args.at n) (c.requires.rest told) in
     let mid = started D.past D.unsynced c.args.file.now c.write_at.new.self (Torn c.args.at n seen) (c.write_at.ensures.past told)
     (λ image is. torn c.args.at n seen image (c.requires.place told) (subst (λ u. IsImage u image) images is)) in
-    after_sync D.past D.unsynced c.args.file.now c.write_at.new.self c.sync.new.self (Torn c.args.at n seen) (D.seen c.write_at.new.self) c.sync.result mid
+    after_sync D.past D.unsynced D.seen c.args.file.now c.write_at.new.self c.sync.new.self (Torn c.args.at n seen) (D.seen c.write_at.new.self) c.sync.result mid
     (c.sync.ensures.images told) (c.sync.ensures.past told) (c.sync.ensures.failed told)
     (mid.now (D.seen c.write_at.new.self) (g.met.F.LogFile.reads_an_image c.write_at.new.self told))

@@ -2,6 +2,8 @@ use Rattle.std.proofs.Common.{◌+◌, ◌-◌, ℕ, List, length, length-drop, 
 use Rattle.std.proofs.lemmas.List.{take_rest}
 use Rattle.ann_frame.specs.Frames.{AreFrames}
 use Rattle.ann_frame.specs.Found.{HasFrame, IsRefusedFrame}
+use Rattle.ann_entry.proofs.Spelled.{bytes_drop}
+use Rattle.ann_frame.proofs.Agrees.{text_agrees}
 use Rattle.ann_frame.proofs.Once.{stand_once, stand_not_bad, refused_standing, refused_bad}
 use Rattle.ann_frame.proofs.Steps.{tail_here, byte_here, inside_here, shut_here, refused_here, frames_on, within_on}
 use Rattle.ann_frame.proofs.reading.read_frames.Goals as goal
@@ -90,3 +92,9 @@ returns-clause-only_bad c entry bad =
     let behind = loop.invariant.behind in
     let read = shut_here c.args.d (drop gate bytes) (loop.at - gate) loop.entries loop.invariant.frames (inside_here bytes gate loop.at behind loop.invariant.inside) (λ opened. c.loop-at-test.false (sym (byte_here bytes gate loop.at behind) ∙ opened)) in
     stand_not_bad c.args.d (drop gate bytes) loop.entries (loop.at - gate) entry read bad
+
+pub returns-in_err-at-clause-agrees : goal.returns-in_err-at-clause-agrees
+returns-in_err-at-clause-agrees c = text_agrees c.args.d (drop c.args.gate c.args.bytes.now) (bytes_drop c.args.gate c.args.bytes.now (λ i. omega (arith, c.type_inv.bytes i)))
+
+pub returns-clause-agrees : goal.returns-clause-agrees
+returns-clause-agrees c = text_agrees c.args.d (drop c.args.gate c.args.bytes.now) (bytes_drop c.args.gate c.args.bytes.now (λ i. omega (arith, c.type_inv.bytes i)))

@@ -1,4 +1,4 @@
-use Rattle.std.proofs.Common.{◌≡◌, ◌-◌, ℕ, List}
+use Rattle.std.proofs.Common.{◌-◌, ℕ, List}
 use Rattle.ann_greedy.specs.Rows.{ground_at}
 use Rattle.ann_greedy.specs.Shows.{IsKept}
 use Rattle.ann_greedy.proofs.Pooling.{Pooling}

@@ -1,4 +1,4 @@
-use Rattle.std.proofs.Common.{◌≡◌, ◌-◌}
+use Rattle.std.proofs.Common.{◌-◌}
 use Rattle.ann_greedy.specs.Rows.{ground_at}
 use Rattle.ann_greedy.specs.Shows.{IsKept}
 use Rattle.ann_greedy.proofs.Pooling.{Pooling}

@@ -9,4 +9,4 @@ returns-clause-bytes g c told =
     subst (λ (k : ℕ). c.resize.new.self.len ≡ min k 262218) (c.in_ok-length.ensures.value told)
     (subst (λ (k : ℕ). c.resize.new.self.len ≡ k) c.min.ensures c.in_ok-resize.ensures.len) in
     front_read 262218 c.resize.new.self.len seen c.resize.new.self.items c.deref_mut.result.now c.read_at.new.buf size c.deref_mut.ensures.value c.deref_mut.ensures.len
-    (subst (λ (l : List ℕ). c.read_at.new.buf ≡ slice_range l 0 (0 + length c.deref_mut.result.now)) (c.length.ensures.same told).0 (c.in_ok-read_at.ensures.bytes told))
+    (subst (λ (l : List ℕ). c.read_at.new.buf ≡ slice_range l 0 (0 + length c.deref_mut.result.now)) (c.length.ensures.same told).reads (c.in_ok-read_at.ensures.bytes told))

@@ -14,7 +14,7 @@ returns-in-First-clause-during g c told =
     let second = D.seen old.second in
     subst (λ side. LeavePairs D.past D.unsynced old (record { first = c.cut_behind.new.file; second = old.second }) (MayBeCut side to first second)) (sym c.in-First.is)
     (at_once D.past D.unsynced old (record { first = c.cut_behind.new.file; second = old.second }) (Cut to first) (λ (b : List ℕ). b ≡ second) (MayBeCut First to first second)
-    (λ a b cut same. (cut, same)) (c.cut_behind.ensures.during told) (resting D.past D.unsynced old.second second (c.requires.rest told).1))
+    (λ a b cut same. (cut, same)) (c.cut_behind.ensures.during told) (resting D.past D.unsynced old.second second (c.requires.rest.second told)))
 
 pub returns-in-Second-clause-during : goal.returns-in-Second-clause-during
 returns-in-Second-clause-during g c told =
@@ -25,4 +25,4 @@ returns-in-Second-clause-during g c told =
     let second = D.seen old.second in
     subst (λ side. LeavePairs D.past D.unsynced old (record { first = old.first; second = c.cut_behind-in-Second.new.file }) (MayBeCut side to first second)) (sym c.in-Second.is)
     (at_once D.past D.unsynced old (record { first = old.first; second = c.cut_behind-in-Second.new.file }) (λ (a : List ℕ). a ≡ first) (Cut to second) (MayBeCut Second to first second)
-    (λ a b same cut. (cut, same)) (resting D.past D.unsynced old.first first (c.requires.rest told).0) (c.cut_behind-in-Second.ensures.during told))
+    (λ a b same cut. (cut, same)) (resting D.past D.unsynced old.first first (c.requires.rest.first told)) (c.cut_behind-in-Second.ensures.during told))

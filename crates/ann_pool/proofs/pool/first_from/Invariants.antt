@@ -1,4 +1,4 @@
-use Rattle.std.proofs.Common.{◌-◌, ◌≤◌, length}
+use Rattle.std.proofs.Common.{◌-◌, length}
 use Rattle.ann_pool.specs.Marks.{AreMarked}
 use Rattle.ann_pool.proofs.pool.first_from.Given as goal
 

@@ -1,11 +1,11 @@
-use Rattle.std.proofs.Common.{◌≡◌, ◌<◌, ◌≤◌, ◌+◌, ◌-◌, ◌^◌, ℕ, suc, List, true, false, length, map, sym, ap, ◌∙◌, subst, arith, drop, get_or, refl}
+use Rattle.std.proofs.Common.{◌≡◌, ◌<◌, ◌≤◌, ◌+◌, ◌-◌, ◌^◌, ℕ, suc, List, true, false, length, map, sym, ap, ◌∙◌, subst, arith, drop, get_or}
 use Rattle.std.specs.Prelude.{All}
 use Rattle.std.proofs.lemmas.List.Elements.{All-weaker, All-get_or}
 use Rattle.ann_types.specs.Order.{has}
 use Rattle.ann_types.specs.Kept.{Rule, rule_of, keep, takes}
 use Rattle.ann_prune.specs.declared.candidates.Candidate.{Candidate}
 use Rattle.ann_prune.specs.Rows.{row_of}
-use Rattle.ann_prune.specs.Newer.{IsNew, IsRepeated, with_tried}
+use Rattle.ann_prune.specs.Newer.{IsNew, IsRepeated}
 use Rattle.ann_prune.proofs.Prunes.{sorted_rows, new_here, never_twice, row_at, length-rows, keep_next, past_next, inside_next, few_next, keep_full}
 use Rattle.ann_prune.proofs.robust.keep_each.Goals as goal
 
@@ -27,9 +27,9 @@ try_keep-requires-clause-next g c =
       new = λ once.
           subst (IsNew (rule_of c.args.params.now) apart c.args.p c.args.newer c.loop-at.out.items) (row_at items i blank (omega arith))
           (new_here (rule_of c.args.params.now) apart c.args.p c.args.newer (map row_of items) c.loop-at.out.items i sorted c.requires.settled within c.loop-at.invariant.past
-          (λ j before same. c.is_repeated-repeated.ensures.first once (repeated_from (map row_of items) i j before same)));
+          (λ j before same. c.is_repeated-repeated.ensures.1 once (repeated_from (map row_of items) i j before same)));
       tried = λ again.
-          let repeated = c.is_repeated-repeated.ensures.again again in
+          let repeated = c.is_repeated-repeated.ensures.0 again in
           let same : get_or (map row_of items) (i - 1) 0 ≡ row_of (get_or items i blank) = repeated.1 ∙ row_at items i blank (omega arith) in
           subst (λ n. takes (rule_of c.args.params.now) apart c.args.p c.loop-at.out.items n ≡ false) same (c.loop-at.invariant.tried (i - 1) (let some = repeated.0 in omega arith));
     }

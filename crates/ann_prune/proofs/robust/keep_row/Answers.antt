@@ -1,4 +1,4 @@
-use Rattle.std.proofs.Common.{◌≡◌, length, ap, ◌<◌, ◌≤◌, ℕ, arith}
+use Rattle.std.proofs.Common.{◌≡◌, length, ap, arith}
 use Rattle.ann_prune.specs.Newer.{fresh_of}
 use Rattle.ann_prune.proofs.Prunes.{fresh_few}
 use Rattle.ann_prune.proofs.robust.keep_row.Goals as goal

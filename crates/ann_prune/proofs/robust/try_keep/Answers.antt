@@ -1,1 +1,0 @@
-use Rattle.ann_prune.proofs.robust.try_keep.Goals as goal

@@ -1,11 +1,11 @@
-use Rattle.std.proofs.Common.{◌≡◌, ◌<◌, ◌≤◌, length, slice_index_or, ℕ}
-use Rattle.ann_disk.specs.Image.{IsFree}
+use Rattle.std.proofs.Common.{◌≡◌, map}
+use Rattle.std.specs.List.{range_with_len}
+use Rattle.ann_disk.specs.Chosen.{byte_of, end_of}
+use Rattle.ann_disk.specs.Stretch.{unsynced_of}
 use Rattle.ann_disk.proofs.stretch.Stretch.image.Given as goal
 
 abbrev pub invariant-loop-place : goal.invariant-loop-place
 invariant-loop-place l = record {
-  so_far : length l.image.items ≡ l.place;
-  low : l.self.low ≤ l.length;
-  high : l.length ≤ l.self.high;
-  stays : (i : ℕ) → i < l.place → i < length l.self.kept.items → IsFree l.self.covered.items i → slice_index_or l.image.items i 0 ≡ slice_index_or l.self.kept.items i 0;
+  so_far : l.image.items ≡ map (byte_of (unsynced_of l.self) l.seen l.chooser) (range_with_len 0 l.place);
+  end : l.end ≡ end_of (unsynced_of l.self) l.chooser;
 }

@@ -1,6 +1,6 @@
 use Rattle.std.proofs.Common.{ap, ◌∙◌, ◌+◌, arith, vec_len}
 use Rattle.ann_pool.specs.Places.{numbers_in}
-use Rattle.ann_pool.proofs.PlacesLemmas.{numbers_none, numbers_fresh, tagged_empty, tagged_later}
+use Rattle.ann_pool.proofs.PlacesLemmas.{numbers_none, numbers_fresh}
 use Rattle.ann_pool.proofs.met.Met.clear.Goals as goal
 
 pub returns-then-self-lt-LAST_TAG : goal.returns-then-self-lt-LAST_TAG

@@ -1,4 +1,4 @@
-use Rattle.std.proofs.Common.{◌≡◌, ℕ, List, arith, sym, subst, length}
+use Rattle.std.proofs.Common.{arith, sym, subst}
 use Rattle.ann_pool.specs.Places.{AreTagged}
 use Rattle.ann_pool.proofs.PlacesLemmas.{tagged_empty}
 use Rattle.ann_pool.proofs.met.Met.new.Goals as goal

@@ -1,5 +1,4 @@
-use Rattle.std.proofs.Common.{◌≡◌, ◌∙◌, List, subst, sym, length, drop, take, ◌++◌}
-use Rattle.ann_pool.specs.declared.item.Item.{Item}
+use Rattle.std.proofs.Common.{◌∙◌, subst, sym, length, drop}
 use Rattle.ann_pool.specs.Marks.{AreMarked}
 use Rattle.ann_pool.specs.Pool.{IsInOrder}
 use Rattle.ann_pool.proofs.Orders.{order_marked, written_back}

@@ -1,4 +1,4 @@
-use Rattle.std.proofs.Common.{◌≡◌, ◌≤◌, true, subst, sym, arith}
+use Rattle.std.proofs.Common.{◌≡◌, true, subst, sym, arith}
 use Rattle.std.specs.List.{AllByRecursion}
 use Rattle.ann_pool.specs.declared.item.Item.{Item}
 use Rattle.ann_pool.specs.Pool.{IsInOrder}

@@ -10,4 +10,4 @@ returns-in_err-judge c =
 
 pub returns : goal.returns
 returns c =
-    ended_ok c.args.self.now (record { script = c.judge.new.self.script; room = c.judge.new.self.room; number = c.judge.new.self.number + 1; line = c.clear.new.self }) c.args.bytes.now (one_line-append c.args.self.now.line.items c.args.bytes.now c.requires.draft c.requires.bytes) c.in_ok-judge.ensures.0 c.in_ok-judge.ensures.1 (ap (λ n. n + 1) c.in_ok-judge.ensures.2) c.clear.ensures.items
+    ended_ok c.args.self.now (record { script = c.judge.new.self.script; rules = c.judge.new.self.rules; number = c.judge.new.self.number + 1; line = c.clear.new.self }) c.args.bytes.now (one_line-append c.args.self.now.line.items c.args.bytes.now c.requires.draft c.requires.bytes) c.in_ok-judge.ensures.0 c.in_ok-judge.ensures.1 (ap (λ n. n + 1) c.in_ok-judge.ensures.2) c.clear.ensures.items

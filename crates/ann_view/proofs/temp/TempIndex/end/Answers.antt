@@ -2,14 +2,14 @@ use Rattle.std.proofs.Common.{◌≡◌, not, drop, sym, ap, ◌∙◌, subst}
 use Rattle.std.specs.List.{AllByRecursion}
 use Rattle.ann_dead.specs.Pids.{has, without, IsAscending}
 use Rattle.ann_dead.proofs.Sets.{ascending_filter}
-use Rattle.ann_frozen.specs.Frozen.{Shown as FrozenShown}
+use Rattle.ann_frozen.specs.Frozen.{FrozenView}
 use Rattle.ann_view.proofs.Inserts.{ended_is, all_dropped}
 use Rattle.ann_view.proofs.temp.TempIndex.end.Goals as goal
 
 pub invariant_of-self-2 : goal.invariant_of-self-2
 invariant_of-self-2 c = record {
   table = c.self.invariant.table;
-  graphs = subst (AllByRecursion (λ (f : FrozenShown). f.params ≡ c.self.inside.params)) (sym c.remove_first.ensures) (all_dropped (λ (f : FrozenShown). f.params ≡ c.self.inside.params) c.frozen.result c.self.inside.ros c.self.invariant.graphs);
+  graphs = subst (AllByRecursion (λ (f : FrozenView). f.params ≡ c.self.inside.params)) (sym c.remove_first.ensures) (all_dropped (λ (f : FrozenView). f.params ≡ c.self.inside.params) c.frozen.result c.self.inside.ros c.self.invariant.graphs);
   few = c.self.invariant.few;
   once = subst IsAscending (sym c.in_ok-remove_all.ensures.removed) (ascending_filter (λ pid. not (has c.gone.result.now pid)) c.self.inside.dead c.self.invariant.once);
   merge = tt;

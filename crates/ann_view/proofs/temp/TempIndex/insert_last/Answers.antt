@@ -2,8 +2,8 @@ use Rattle.std.proofs.Common.{◌<◌, [], List, sym, ap, ◌∙◌, subst}
 use Rattle.std.specs.Prelude.{All}
 use Rattle.ann_types.specs.Graph.{Point}
 use Rattle.ann_view.specs.Temp.{Temp, state_of}
-use Rattle.ann_table.specs.Table.{Shown as TableShown}
-use Rattle.ann_frozen.specs.Frozen.{Shown as FrozenShown, frozen_of}
+use Rattle.ann_table.specs.Table.{TableView}
+use Rattle.ann_frozen.specs.Frozen.{FrozenView, frozen_of}
 use Rattle.ann_view.proofs.Inserts.{above_nodes, kept_more, temp, inserted_full}
 use Rattle.ann_view.proofs.temp.TempIndex.insert_last.Goals as goal
 
@@ -20,7 +20,7 @@ invariant_of-self-2 c =
 pub returns-clause-inserted : goal.returns-clause-inserted
 returns-clause-inserted c =
     let frozen = c.in_ok-freeze_with_point.ensures.added in
-    ap (λ (t : TableShown). temp c.self.inside.params (state_of t c.freeze_with_point.new.ros c.self.inside.dead c.self.inside.begun)) c.new.ensures
-    ∙ ap (λ (t : List FrozenShown). temp c.self.inside.params (state_of (record { params = c.self.inside.params; nodes = []; spare = 0 }) t c.self.inside.dead c.self.inside.begun)) frozen.added
+    ap (λ (t : TableView). temp c.self.inside.params (state_of t c.freeze_with_point.new.ros c.self.inside.dead c.self.inside.begun)) c.new.ensures
+    ∙ ap (λ (t : List FrozenView). temp c.self.inside.params (state_of (record { params = c.self.inside.params; nodes = []; spare = 0 }) t c.self.inside.dead c.self.inside.begun)) frozen.added
     ∙ inserted_full c.args.self.now c.self.inside.params c.self.inside.rw c.self.inside.ros c.self.inside.dead c.self.inside.begun c.self.view_is c.self.inside.rw.params c.self.inside.rw.params frozen.full 0 c.args.pid c.args.tag c.args.vector.now c.self.invariant.table c.requires.last
     frozen.point

@@ -1,0 +1,2 @@
+pub mod AnyClient
+pub mod Living

@@ -1,0 +1,6 @@
+pub mod Commands
+pub mod Live
+pub mod Searching
+pub mod Sessions
+pub mod Transcribing
+pub mod Zeros

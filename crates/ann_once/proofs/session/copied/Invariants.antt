@@ -1,0 +1,6 @@
+use Rattle.std.proofs.Common.{◌≡◌, take}
+use Rattle.ann_once.proofs.session.copied.Given as goal
+
+-- the hits so far
+abbrev pub invariant-loop-hit : goal.invariant-loop-hit
+invariant-loop-hit l = l.list ≡ take l.hit-index l.hits

@@ -1,0 +1,4 @@
+pub mod Book
+pub mod Once
+pub mod Live
+pub mod Session
