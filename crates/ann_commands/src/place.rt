@@ -1,5 +1,6 @@
 ghost use Rattle.std.specs.Prelude.{◌≡◌, IfOk, length};
-ghost use Rattle.ann_commands.specs.Place.{IsWhole};
+ghost use Rattle.std.specs.List.{AllByRecursion};
+ghost use Rattle.ann_commands.specs.Place.{IsWhole, IsPlaceOf};
 
 use ann_door::Door;
 use std::alloc::{AllocError, Global};
@@ -26,7 +27,8 @@ pub struct Place<F, V, E> {
 
 /// A door for each client. The only error is want of memory.
 fn doors(alloc: Global) -> Result<Vec<Door>, AllocError>
-    ensures { IfOk result (λ doors. length doors.items ≡ 32) }
+    ensures count { IfOk result (λ doors. length doors.items ≡ 32) }
+    ensures unrefused { IfOk result (λ doors. AllByRecursion (λ refused. refused ≡ 0) doors.items) }
 {
     let mut doors = Vec::new(alloc);
     for _ in 0..CLIENTS {
@@ -36,7 +38,8 @@ fn doors(alloc: Global) -> Result<Vec<Door>, AllocError>
 }
 
 impl<F: Drop, V: Drop, E: Drop> Place<F, V, E> {
-    /// A place with these two files, this vault and these eyes. The only error is want of memory.
+    /// A place with these two files, this vault and these eyes, and doors at which nobody was refused. The only error is
+    /// want of memory.
     pub fn new(
         alloc: Global,
         log: F,
@@ -47,7 +50,8 @@ impl<F: Drop, V: Drop, E: Drop> Place<F, V, E> {
     ) -> Result<Place<F, V, E>, AllocError>
         requires clients { length client_eyes.items ≡ 32 }
         requires workers { length worker_eyes.items ≡ 16 }
-        ensures { IfOk result IsWhole }
+        ensures whole { IfOk result IsWhole }
+        ensures of { IfOk result (IsPlaceOf log second vault client_eyes worker_eyes) }
     {
         Ok(Place {
             log: Some(log),

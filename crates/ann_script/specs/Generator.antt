@@ -26,6 +26,10 @@ abbrev pub inserts : ℕ → ℕ → ℕ → ℕ → List Change
 inserts d x tag zero = []
 inserts d x tag (suc n) = Insert tag (made x d) ∷ inserts d (after x d) (tag + 1) n
 
--- the update of this index, from 0, of a fill of so many points: 64 of its inserts, the last one fewer
+-- of a fill of so many points the inserts behind so many updates, of 64 each
+abbrev pub behind : ℕ → ℕ → ℕ → ℕ → ℕ → List Change
+behind d seed count first index = drop (64 * index) (inserts d seed first count)
+
+-- the update of this index, from 0: the next 64 of its inserts, or the last ones
 abbrev pub batch_of : ℕ → ℕ → ℕ → ℕ → ℕ → List Change
-batch_of d seed count first index = take 64 (drop (64 * index) (inserts d seed first count))
+batch_of d seed count first index = take 64 (behind d seed count first index)

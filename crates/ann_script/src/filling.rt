@@ -1,6 +1,6 @@
-ghost use Rattle.std.specs.Prelude.{◌≡◌, ◌≤◌, ◌<◌, ◌+◌, ◌-◌, ◌^◌, length, take, drop, IfOk, OnOk, OnErr};
+ghost use Rattle.std.specs.Prelude.{ℕ, ◌≡◌, ◌≤◌, ◌<◌, ◌+◌, ◌-◌, ◌^◌, length, take, drop, IfOk, OnOk, OnErr};
 ghost use Rattle.ann_types.specs.declared.change.Change.TheVariants.{Insert};
-ghost use Rattle.ann_script.specs.Generator.{made, after, inserts};
+ghost use Rattle.ann_script.specs.Generator.{made, after, inserts, behind, batch_of};
 
 use crate::change_list::ChangeList;
 use crate::generator::Generator;
@@ -71,6 +71,11 @@ impl Filling {
     pub fn next_batch(&mut self, alloc: Global) -> Result<ChangeList, AllocError>
         ensures batch { IfOk result (λ changes. changes ≡ take 64 self.old) }
         ensures rest { OnOk result (self.new ≡ drop 64 self.old) }
+        // So behind so many updates of a fill it is the next one of these.
+        ensures in_turn { (d seed count first index : ℕ) → self.old ≡ behind d seed count first index →
+            IfOk result (λ changes. changes ≡ batch_of d seed count first index) }
+        ensures goes_on { (d seed count first index : ℕ) → self.old ≡ behind d seed count first index →
+            OnOk result (self.new ≡ behind d seed count first (index + 1)) }
         ensures err { OnErr result (self.new ≡ self.old) }
     {
         let size = MOST_INSERTS.min(self.count - self.done);

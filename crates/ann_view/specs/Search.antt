@@ -1,5 +1,5 @@
 -- What a search of a view leaves on its desk.
-use Rattle.std.specs.Prelude.{◌≡◌, ℕ, List, ◌++◌, All, IsTrue, map, flat_map}
+use Rattle.std.specs.Prelude.{◌≡◌, ℕ, List, [], ◌++◌, All, IsTrue, map, flat_map}
 use Rattle.ann_types.specs.Order.{top}
 use Rattle.ann_types.specs.Graph.{Point, Graph, far_from, tag_of, near_to}
 use Rattle.ann_types.specs.Merge.{without}
@@ -33,6 +33,10 @@ near_result memory ask = record {
   limit = ask.k;
   points = ranked_of (all_points memory) ask.vector ask.k (without memory.dead (near_memory memory ask.vector ask.l));
 }
+
+-- a result without hits
+abbrev pub nothing_found : ℕ → RankingView
+nothing_found k = record { limit = k; points = [] }
 
 -- what the search of the long-term graph of a pin, or of a view, goes by
 abbrev pub quest_by : {S : Type 0} → PinnedView S → Ask → Quest S

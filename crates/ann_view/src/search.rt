@@ -1,5 +1,5 @@
 // The search of the long-term graph behind the graphs in memory.
-ghost use Rattle.std.specs.Prelude.{◌≡◌, ◌≢◌, ◌↔◌, [], length, IsOk, IfOk, IfErr, IsErrOf, OnOk, OnErr};
+ghost use Rattle.std.specs.Prelude.{◌≡◌, ◌≢◌, ◌↔◌, length, IsOk, IfOk, IfErr, IsErrOf, OnOk, OnErr};
 ghost use Rattle.std.specs.Arc.{arc_value};
 ghost use Rattle.std.specs.Option.{option_map};
 ghost use Rattle.ann_beam.specs.Desk.{result_of, standing};
@@ -7,7 +7,7 @@ ghost use Rattle.ann_beam.specs.Found.{IsSearched};
 ghost use Rattle.ann_beam.specs.Quest.{Fits, quest_of};
 ghost use Rattle.ann_beam.specs.declared.refused.SearchRefused.TheVariants.{Dimension};
 ghost use Rattle.ann_view.specs.View.{IndexView};
-ghost use Rattle.ann_view.specs.Search.{IsAnswered, IsNearOf, from_near, near_result, quest_by, quest_in};
+ghost use Rattle.ann_view.specs.Search.{IsAnswered, IsNearOf, from_near, near_result, nothing_found, quest_by, quest_in};
 
 use crate::pinned::Pinned;
 use crate::view::View;
@@ -36,13 +36,15 @@ fn add_long_term<S: Sealed, E: Eye<Seal = S>, D: Deleted>(
     eye: &mut E,
     ask: &Ask,
 ) -> Result<(), SearchRefused>
-    requires { Fits
+    requires fits { Fits
         (quest_of (option_map arc_value segment.now) params.now book.now (D.pids dead.now) ask.now) }
+    requires limit { (result_of desk.old).limit ≡ ask.now.k }
+    ensures limit { (result_of desk.new).limit ≡ ask.now.k }
     ensures searched { IsSearched S.tells S.bytes
         (quest_of (option_map arc_value segment.now) params.now book.now (D.pids dead.now) ask.now)
         (standing desk.old (E.reads eye.old) (E.faults eye.old))
         (standing desk.new (E.reads eye.new) (E.faults eye.new)) result }
-    ensures emptied { OnErr result ((result_of desk.new).points ≡ []) }
+    ensures emptied { OnErr result (result_of desk.new ≡ nothing_found ask.now.k) }
 {
     let Some(segment) = segment else {
         return Ok(());
@@ -79,10 +81,12 @@ impl<S: Sealed> Pinned<S> {
             (standing desk.old (E.reads eye.old) (E.faults eye.old))
             (standing desk.new (E.reads eye.new) (E.faults eye.new)) result }
 
+        ensures limit { (result_of desk.new).limit ≡ ask.now.k }
+
         // It finds the answer of the state that was pinned.
         ensures answered { S.tells → (view : IndexView S) → IsNearOf self ask.now (result_of desk.old) view →
             OnOk result (IsAnswered S.bytes view ask.now (result_of desk.new).points) }
-        ensures emptied { OnErr result ((result_of desk.new).points ≡ []) }
+        ensures emptied { OnErr result (result_of desk.new ≡ nothing_found ask.now.k) }
     {
         add_long_term(
             &self.segment,
@@ -109,7 +113,7 @@ impl<S: Sealed> View<S> {
         ensures near { OnOk result (result_of desk.new ≡ near_result self.now.memory ask.now) }
         ensures fits { IsOk result ↔ (length ask.now.vector ≡ self.now.params.d) }
         ensures dimension { IfErr result (λ why. why ≡ Dimension (length ask.now.vector) self.now.params.d) }
-        ensures emptied { OnErr result ((result_of desk.new).points ≡ []) }
+        ensures emptied { OnErr result (result_of desk.new ≡ nothing_found ask.now.k) }
     {
         desk.restart(ask.k);
         let got = ask.vector.bytes().len() as u32;
@@ -141,11 +145,12 @@ impl<S: Sealed> View<S> {
         ensures searched { IsSearched S.tells S.bytes (quest_in self.now ask.now)
             (standing desk.old (E.reads eye.old) (E.faults eye.old))
             (standing desk.new (E.reads eye.new) (E.faults eye.new)) result }
+        ensures limit { (result_of desk.new).limit ≡ ask.now.k }
 
         // It finds the answer of this state.
         ensures answered { S.tells →
             OnOk result (IsAnswered S.bytes self.now ask.now (result_of desk.new).points) }
-        ensures emptied { OnErr result ((result_of desk.new).points ≡ []) }
+        ensures emptied { OnErr result (result_of desk.new ≡ nothing_found ask.now.k) }
     {
         let params = self.temp.params();
         add_long_term(
@@ -182,11 +187,12 @@ impl<S: Sealed> View<S> {
             IsSearched S.tells S.bytes (quest_in self.now ask.now)
             (from_near self.now ask.now (standing desk.old (E.reads eye.old) (E.faults eye.old)))
             (standing desk.new (E.reads eye.new) (E.faults eye.new)) result }
+        ensures limit { (result_of desk.new).limit ≡ ask.now.k }
 
         // It finds the answer of this state.
         ensures answered { S.tells →
             OnOk result (IsAnswered S.bytes self.now ask.now (result_of desk.new).points) }
-        ensures emptied { OnErr result ((result_of desk.new).points ≡ []) }
+        ensures emptied { OnErr result (result_of desk.new ≡ nothing_found ask.now.k) }
     {
         self.near(desk, ask)?;
         self.disk(desk, eye, ask)

@@ -1,5 +1,5 @@
-use Rattle.std.proofs.Common.{◌≡◌, ◌<◌, ◌+◌, ◌-◌, ◌++◌, ◌∷◌, [], ◌∙◌, ap, arith, length, min}
-use Rattle.std.proofs.lemmas.List.{length-append}
+use Rattle.std.proofs.Common.{◌≡◌, ◌<◌, ◌+◌, ◌-◌, ◌*◌, List, take, drop, ◌++◌, ◌∷◌, [], ◌∙◌, ap, arith, length, min}
+use Rattle.std.proofs.lemmas.List.{length-append, drop-drop}
 use Rattle.ann_types.specs.declared.change.Change.{Change}
 use Rattle.ann_types.specs.declared.change.Change.TheVariants.{Insert}
 use Rattle.ann_script.specs.Generator.{made, inserts}
@@ -33,3 +33,12 @@ returns-clause-rest c =
     let most : i ≡ min 64 (i + (s.count - (s.done + i))) = grind (arith, c.loop-index-test.false, c.loop-index.auto.index-end, c.min-size.ensures, c.self.invariant.0) in
     ap (λ n. inserts s.d x (s.first + (s.done + n)) (s.count - (s.done + n))) end
     ∙ (batch s.d x (s.first + (s.done + i)) (s.count - (s.done + i)) i c.loop-index.changes c.args.self.now c.loop-index.invariant.all c.loop-index.invariant.made most).1
+
+pub returns-clause-in_turn : goal.returns-clause-in_turn
+returns-clause-in_turn c = λ d seed count first index same. returns-clause-batch c ∙ ap (take 64) same
+
+pub returns-clause-goes_on : goal.returns-clause-goes_on
+returns-clause-goes_on c = λ d seed count first index same.
+    let all : List Change = inserts d seed first count in
+    returns-clause-rest c ∙ ap (drop 64) same ∙ drop-drop 64 (64 * index) all
+    ∙ ap (λ n. drop n all) (let more : 64 * index + 64 ≡ 64 * (index + 1) = omega arith in more)
