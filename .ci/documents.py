@@ -8,8 +8,8 @@ The checks:
 - believed: from the contracts of public calls, the ghost members of public traits and the models of types, every definition
   that they cite is followed, through all crates. The files of specs/ that are reached are exactly those that the table
   in docs/PROVED.md lists.
-- paths: each path that a document names exists; one that begins with src/, specs/ or proofs/ does in a crate that the
-  line or its heading names.
+- paths: each path that a document names exists; a file without its crate's name exists in a crate that the line or its
+  heading names.
 - crates: the table of crates in docs/ARCHITECTURE.md says what crates.txt says.
 - names: each name of code that the documents of contracts cite stands in some crate.
 - widths: no line of a clause passes 110 columns.
@@ -238,8 +238,8 @@ def check_paths():
         for line in text.split("\n"):
             heading = line if line.startswith("#") else heading
             crates = re.findall(r"\bann_[a-z]+", heading + line)
-            for path in re.findall(r"`((?:src|specs|proofs)/[\w./]*\w)`", line):
-                if crates and not any(os.path.exists(f"crates/{crate}/{path}") for crate in crates):
+            for path in re.findall(r"`(?!ann_|crates/)([\w/]+\.(?:rt|antt))`", line):
+                if crates and not any(glob.glob(f"crates/{crate}/**/{path}", recursive=True) for crate in crates):
                     yield f"{document} names {path}, which none of {', '.join(crates)} has"
 
 
