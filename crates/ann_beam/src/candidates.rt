@@ -2,6 +2,7 @@ ghost use Rattle.std.specs.Prelude.{◌≡◌, ◌≤◌, ◌<◌, ◌∷◌, []
 ghost use Rattle.ann_beam.specs.Candidates.{AreCandidates, HasMet, HasChosen};
 
 use ann_block::Node;
+use ann_lanes::touched;
 use ann_pool::Pool;
 use ann_pq::Tables;
 use ann_segment::Segment;
@@ -20,6 +21,20 @@ pub(crate) fn offer<S: Sealed>(segment: &Segment<S>, tables: &Tables, guided: &m
     guided.offer(tables.distance(segment.code(row)), row);
 }
 
+/// Reads a little of the code of each neighbour that the pool doesn't know, so that these come from memory side by side.
+fn touch_all<S: Sealed>(segment: &Segment<S>, guided: &Pool, node: &Node) -> u8
+    requires { All (λ row. row < length segment.now.items) node.now.neighbours }
+{
+    let mut byte = 0;
+    for i in 0..node.degree() {
+        let row = node.neighbour(i);
+        if !guided.has_met(row) {
+            byte ^= touched(segment.code(row));
+        }
+    }
+    byte
+}
+
 /// Meets the neighbours of a visited node.
 pub(crate) fn meet<S: Sealed>(segment: &Segment<S>, tables: &Tables, guided: &mut Pool, node: &Node)
     requires inside { All (λ row. row < length segment.now.items) node.now.neighbours }
@@ -27,6 +42,7 @@ pub(crate) fn meet<S: Sealed>(segment: &Segment<S>, tables: &Tables, guided: &mu
     requires candidates { AreCandidates tables.now segment.now.items guided.old }
     ensures { HasMet tables.now segment.now.items node.now.neighbours guided.old guided.new }
 {
+    guided.keep_warm(touch_all(segment, guided, node));
     for i in 0..node.degree() {
         offer(segment, tables, guided, node.neighbour(i));
     }

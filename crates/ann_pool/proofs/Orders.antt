@@ -1,5 +1,5 @@
 -- Items in order.
-use Rattle.std.proofs.Common.{◌≡◌, ℕ, zero, suc, ◌+◌, ◌-◌, ◌<◌, ◌≤◌, true, false, cond, eqb, ltb, List, [], ◌∷◌, ◌++◌, refl, sym, ap, subst, ◌∙◌, arith, length, take, drop, get_or, set, ◌⊎◌, inl, inr, eqb-true, eq-eqb, ltb-true, ltb-false, lt-ltb}
+use Rattle.std.proofs.Common.{◌≡◌, ℕ, zero, suc, ◌+◌, ◌-◌, ◌*◌, ◌<◌, ◌≤◌, true, false, cond, eqb, ltb, List, [], ◌∷◌, ◌++◌, refl, sym, ap, subst, ◌∙◌, arith, length, take, drop, get_or, set, ◌⊎◌, inl, inr, eqb-true, eq-eqb, ltb-true, ltb-false, lt-ltb}
 use Rattle.std.specs.Prelude.{insert}
 use Rattle.std.proofs.lemmas.List.{take-append-drop, take_all, take-append-le, get_or_default, set_split, drop_more}
 use Rattle.std.specs.List.Sorted.{IsPartitionedBy}
@@ -24,6 +24,21 @@ before_from x y (inr (e, l)) = or_right _ _ (and_from _ _ (eq-eqb x.distance y.d
 
 not_before : (x y : Item) → (Precedes x y → ⊥) → item_before x y ≡ false
 not_before x y h = false_from_ne_true _ (λ e. h (before_tells x y e))
+
+-- the same by one number for each item
+pub key_before : (x y : Item) → x.number < 4294967296 → y.number < 4294967296 → ltb (x.distance * 4294967296 + x.number) (y.distance * 4294967296 + y.number) ≡ item_before x y
+key_before x y few more =
+    elim (ltb (x.distance * 4294967296 + x.number) (y.distance * 4294967296 + y.number)) as (λ t. ltb (x.distance * 4294967296 + x.number) (y.distance * 4294967296 + y.number) ≡ t → t ≡ item_before x y) [
+      | true ↦ λ e.
+          let less = ltb-true (x.distance * 4294967296 + x.number) (y.distance * 4294967296 + y.number) e in
+          sym (before_from x y (elim (ltb x.distance y.distance) as (λ t. ltb x.distance y.distance ≡ t → Precedes x y) [
+            | true ↦ λ l. inl (ltb-true x.distance y.distance l)
+            | false ↦ λ l. let no = ltb-false x.distance y.distance l in inr (omega arith, omega arith)
+          ] refl))
+      | false ↦ λ e.
+          let no = ltb-false (x.distance * 4294967296 + x.number) (y.distance * 4294967296 + y.number) e in
+          sym (not_before x y (λ b. elim b [ inl l ↦ omega arith | inr s ↦ let same = s.0 in let less = s.1 in omega arith ]))
+    ] refl
 
 pub before-asymmetric : (x y : Item) → item_before x y ≡ true → item_before y x ≡ false
 before-asymmetric x y h = let a = before_tells x y h in not_before y x (λ b. omega arith)

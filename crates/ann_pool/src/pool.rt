@@ -1,4 +1,4 @@
-ghost use Rattle.std.specs.Prelude.{◌≡◌, ◌≤◌, ◌<◌, ◌⊎◌, ℕ, [], true, false, length, IfOk, IfSome, IsNone, ◌↔◌, Contains, find, insert, take, vec_len, vec_capacity};
+ghost use Rattle.std.specs.Prelude.{◌≡◌, ◌≤◌, ◌<◌, ◌+◌, ◌*◌, ◌⊎◌, ℕ, [], true, false, length, IfOk, IfSome, IsNone, ◌↔◌, Contains, find, insert, take, vec_len, vec_capacity};
 ghost use Rattle.ann_types.specs.Order.{has};
 ghost use Rattle.ann_pool.specs.Marks.{AreMarked, IsFirst};
 ghost use Rattle.ann_pool.specs.Pool.{item_before, IsInOrder, IsSameWhereThere, IsPlaceOf, offered, pooled, unvisited, marked, fresh, PoolView};
@@ -34,10 +34,20 @@ impl Model for Pool {
     ghost invariant = { λ p. (1 ≤ p.limit) × (p.limit ≤ 1000) × (vec_len p.items ≤ p.limit) × (1000 < vec_capacity p.items) × IsInOrder p.items.items × AreMarked p.next p.items.items };
 }
 
+/// One number that puts items in order of distance and number, so that one comparison tells which comes first.
+#[inline(always)]
+fn key_of(item: &Item) -> u64
+    ensures value { result ≡ item.now.distance * 4294967296 + item.now.number }
+    ensures few { item.now.number < 4294967296 }
+{
+    u64::from(item.distance) * 4_294_967_296 + u64::from(item.number)
+}
+
+#[inline(always)]
 fn is_before(x: &Item, y: &Item) -> bool
     ensures { result ≡ item_before x.now y.now }
 {
-    x.distance < y.distance || (x.distance == y.distance && x.number < y.number)
+    key_of(x) < key_of(y)
 }
 
 /// How many items stand before this one.

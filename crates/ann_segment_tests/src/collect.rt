@@ -67,7 +67,10 @@ fn add_and_delete(view: &mut View<MemorySeal>, alloc: Global) -> Result<(), Fail
 // Whether these points stand in a list.
 fn are_points(points: &PointList, wanted: &[Row]) -> bool {
     for (point, (pid, tag, component)) in points.items().iter().zip(wanted) {
-        if point.pid != *pid || point.tag != *tag || point.vector.bytes() != [*component].as_slice() {
+        if point.pid != *pid
+            || point.tag != *tag
+            || point.vector.bytes() != [*component].as_slice()
+        {
             return false;
         }
     }
