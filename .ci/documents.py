@@ -8,7 +8,10 @@ The checks:
 - believed: from the contracts of public calls, the ghost members of public traits and the models of types, every definition
   that they cite is followed, through all crates. The files of specs/ that are reached are exactly those that the table
   in docs/PROVED.md lists.
-- paths: each path that a document names exists.
+- paths: each path that a document names exists; a file without its crate's name exists in a crate that the line or its
+  heading names.
+- crates: the table of crates in docs/ARCHITECTURE.md says what crates.txt says.
+- names: each name of code that the documents of contracts cite stands in some crate.
 - widths: no line of a clause passes 110 columns.
 """
 import collections
@@ -23,7 +26,7 @@ WIDTH = 110
 WORD = re.compile(r"[^\W\d][\w'-]*|◌?[^\s\w(){}\[\],;.:\"'`]+◌?")
 USE = re.compile(r"use Rattle\.(ann_\w+)\.(specs|proofs)\.([\w.]+?)(?:\.\{([^}]*)\}| as (\w+)|;|\s*$)", re.M)
 CLAUSE = re.compile(r"^\s*(requires|ensures)\b")
-DEFINED = re.compile(r"^(?:abbrev |pub |record |data |abstract |opaque )*([^\W\d][\w'-]*)\s*(?::|\(|\{)", re.M)
+HEAD = re.compile(r"((?:(?:abbrev|unfoldable|pub|record|data) )*)([^\s({:]+)")
 
 
 def read(path):
@@ -51,16 +54,32 @@ def imports(text):
 
 
 def definitions(text):
-    """The definitions of a file of specs/ or proofs/: name -> its whole text."""
-    parts, name = collections.defaultdict(str), None
+    """The definitions of a file of specs/ or proofs/: name -> its whole text. What stands in a `module .. where` has that
+    line in its text too, a constructor leads to its `data`, and a name that is given on to where it comes from."""
+    parts, name, module, is_data = collections.defaultdict(str), None, "", False
     for line in text.split("\n"):
-        if line.startswith("--") or line.startswith("use ") or not line.strip():
+        if not line.strip() or line.lstrip().startswith("--"):
             continue
         if not line[0].isspace():
-            start = re.match(r"(?:(?:abbrev|pub|record|data|unfolding|opaque) )*([^\s({:]+)", line)
-            name = start.group(1) if start else None
+            module = line + "\n" if line.startswith("module ") else ""
+        elif module:
+            line = line.removeprefix("  ")
+        if line.startswith("pub use "):
+            for again in re.findall(r"[^\s{},]+", line.partition("{")[2]):
+                parts[again] += line + "\n"
+            name = None
+        elif line.startswith(("module ", "use ", "infix")):
+            name = None
+        elif not line[0].isspace():
+            start = HEAD.match(line)
+            if start:
+                name, is_data = start.group(2), "data " in start.group(1)
+                parts[name] += module if name not in parts else ""
         if name:
             parts[name] += line + "\n"
+            constructor = re.match(r"\s+(\S+) :", line)
+            if constructor and is_data:
+                parts[constructor.group(1)] += name + "\n"
     return parts
 
 
@@ -141,7 +160,7 @@ def contracts(crate):
 
 
 def reached():
-    """The files of definitions that the public contracts reach."""
+    """The files of definitions that the public contracts reach, and the names on the way that no file defines."""
     files, seen, waiting = Files(), set(), []
 
     def follow(text, brought, own=None):
@@ -158,7 +177,7 @@ def reached():
     for crate in product_crates():
         for text, brought in contracts(crate):
             follow(text, brought)
-    found = set()
+    found, lost = set(), set()
     while waiting:
         place = waiting.pop()
         if place in seen or place[3] is None or ".declared." in f".{place[2]}." or place[2].startswith("contracts"):
@@ -166,16 +185,17 @@ def reached():
         seen.add(place)
         crate, folder, module, name = place
         path, defined, brought = files.of(crate, folder, module)
-        if name not in defined:
-            continue
         found.add(path)
-        follow(defined[name], brought, ((crate, folder, module), defined))
-    return found
+        if name in defined:
+            follow(defined[name], brought, ((crate, folder, module), defined))
+        else:
+            lost.add(f"{path} doesn't define {name}, which a contract cites from there")
+    return found, lost
 
 
 def believed_rows():
     rows = collections.defaultdict(list)
-    for path in reached():
+    for path in reached()[0]:
         _, crate, folder, *rest = path.split("/")
         name = "/".join(rest).removesuffix(".antt")
         rows[crate].append(name if folder == "specs" else f"proofs/{name}")
@@ -192,6 +212,7 @@ def listed_rows():
 
 
 def check_believed():
+    yield from sorted(reached()[1])
     believed, listed = believed_rows(), listed_rows()
     for crate in sorted(set(believed) | set(listed)):
         for name in sorted(set(believed.get(crate, [])) - set(listed.get(crate, []))):
@@ -200,16 +221,48 @@ def check_believed():
             yield f"{TABLE} lists {crate}: {name}, which no public contract reaches"
 
 
+def documents():
+    return ["README.md", *sorted(glob.glob("docs/*.md")), *sorted(glob.glob("bench/**/*.md", recursive=True))]
+
+
 def check_paths():
-    for document in ["README.md", *sorted(glob.glob("docs/*.md")), *sorted(glob.glob("bench/**/*.md", recursive=True))]:
-        text = read(document)
+    for document in documents():
+        text, heading = read(document), ""
         here = os.path.dirname(document)
         for path in re.findall(r"\]\(([^)#:]+)(?:#[^)]*)?\)", text):
             if not os.path.exists(os.path.normpath(os.path.join(here, path))):
                 yield f"{document} links to {path}, which doesn't exist"
-        for path in re.findall(r"`((?:crates|docs|bench|examples|\.ci)/[\w./-]*\w)`", text):
-            if not os.path.exists(path):
+        for path in re.findall(r"`((?:(?:crates|docs|bench|examples|\.ci)/|ann_\w+/)[\w./-]*\w)`", text):
+            if not os.path.exists(path) and not os.path.exists(f"crates/{path}"):
                 yield f"{document} names {path}, which doesn't exist"
+        for line in text.split("\n"):
+            heading = line if line.startswith("#") else heading
+            crates = re.findall(r"\bann_[a-z]+", heading + line)
+            for path in re.findall(r"`(?!ann_|crates/)([\w/]+\.(?:rt|antt))`", line):
+                if crates and not any(glob.glob(f"crates/{crate}/**/{path}", recursive=True) for crate in crates):
+                    yield f"{document} names {path}, which none of {', '.join(crates)} has"
+
+
+def check_crates():
+    """The table of crates in ARCHITECTURE.md is crates.txt."""
+    table = dict(re.findall(r"^\| `(ann_\w+)` \| [^|]+ \| ([^|]*) \|$", read("docs/ARCHITECTURE.md"), re.M))
+    for crate, below in re.findall(r"^(ann_\w+)[^:\n]*:(.*)$", read("crates.txt"), re.M):
+        if re.findall(r"\w+", table.pop(crate, "none")) != below.split():
+            yield f"docs/ARCHITECTURE.md has {crate} on other crates than crates.txt"
+    for crate in table:
+        yield f"docs/ARCHITECTURE.md lists {crate}, which crates.txt hasn't"
+
+
+def check_names():
+    """Of names that are plainly ones of code, with a capital inside or an underscore."""
+    known = set()
+    for path in glob.glob("crates/**/*.rt", recursive=True) + glob.glob("crates/**/*.antt", recursive=True):
+        known |= set(re.findall(r"\w+", read(path)))
+    for document in ("docs/PROVED.md", "docs/DECISIONS.md", "docs/DEFINITIONS.md", "docs/FORMATS.md"):
+        for span in re.findall(r"`([^`\n]+)`", read(document)):
+            for name in re.findall(r"\b[A-Za-z]\w+", "" if "/" in span or "*" in span else span):
+                if ("_" in name or re.search("[a-z][A-Z]", name)) and name not in known and not name.startswith("ann_"):
+                    yield f"{document} names {name}, which no crate has"
 
 
 def check_widths():
@@ -231,7 +284,7 @@ def main():
         for crate, names in sorted(believed_rows().items()):
             print(f"| `{crate}` | {', '.join(f'`{name}`' for name in names)} |")
         return 0
-    faults = [fault for check in (check_believed, check_paths, check_widths) for fault in check()]
+    faults = [fault for check in (check_believed, check_paths, check_crates, check_names, check_widths) for fault in check()]
     for fault in faults:
         print(f"documents: {fault}")
     if not faults:
