@@ -19,8 +19,8 @@ use ann_vault::{Eye, Sealed};
 ///
 /// # Errors
 ///
-/// `Disk` where a read failed, and `BadSegment` with the first block that was read and is outside the format; it stands
-/// on the desk's page. The desk's candidates and its result may then hold anything; the result's limit stays.
+/// `Disk` where a read failed, and `BadSegment` with a block that was read and is outside the format; it stands on the
+/// desk's page. The desk's candidates and its result may then hold anything; the result's limit stays.
 pub fn beam<S: Sealed, E: Eye<Seal = S>, D: Deleted>(
     segment: &Segment<S>,
     book: &Codebook,

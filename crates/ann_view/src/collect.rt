@@ -177,7 +177,7 @@ impl<S: Sealed> View<S> {
     ///
     /// # Errors
     ///
-    /// `Disk` where a read failed, `BadSegment` with the first block that was read and is outside the format, and
+    /// `Disk` where a read failed, `BadSegment` with a block that was read and is outside the format, and
     /// `Memory`. The list then has the first of the live points.
     pub fn collect<E: Eye<Seal = S>>(
         &self,

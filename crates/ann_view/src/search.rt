@@ -166,7 +166,8 @@ impl<S: Sealed> View<S> {
     }
 
     /// Finds the points nearest to a query (Search of FreshDiskANN, section 5.2): `near`, and then `disk`. The hits on the
-    /// desk are the answer of every list that the view stands for. Takes no memory.
+    /// desk are the answer of every list that the view stands for and whose long-term graph its segment holds. Takes no
+    /// memory.
     ///
     /// # Errors
     ///

@@ -1,5 +1,6 @@
 use Rattle.std.proofs.Common.{◌≡◌, ◌∙◌, sym, ap, subst}
 use Rattle.ann_pq.specs.Codebook.{CodebookView}
+use Rattle.ann_beam.specs.Ranking.{RankingView}
 use Rattle.ann_beam.specs.Quest.{Fits, quest_of}
 use Rattle.ann_beam.proofs.Searches.{searched_ok, searched_err}
 use Rattle.ann_view.specs.Pinned.{PinnedView, kept}
@@ -7,8 +8,11 @@ use Rattle.ann_view.specs.Search.{quest_by}
 use Rattle.ann_view.proofs.Whole.{pin_answers}
 use Rattle.ann_view.proofs.pinned.Pinned.disk.Goals as goal
 
-pub add_long_term-requires : goal.add_long_term-requires
-add_long_term-requires g c =
+pub add_long_term-requires-clause-limit : goal.add_long_term-requires-clause-limit
+add_long_term-requires-clause-limit g c = ap (λ (r : RankingView). r.limit) c.requires.near.1.near
+
+pub add_long_term-requires-clause-fits : goal.add_long_term-requires-clause-fits
+add_long_term-requires-clause-fits g c =
     let own = kept c.self.inside.params c.self.inside.book c.self.inside.at c.self.inside.dead c.self.inside.segment in
     subst (λ (b : CodebookView). Fits (quest_of own.segment own.params b own.dead c.args.ask.now)) (sym c.deref.ensures)
     (record { width = c.requires.width ∙ ap (λ (p : PinnedView g.row.S.Denot). p.params.d) (sym c.self.view_is); book = c.self.invariant.book; codes = c.self.invariant.codes })

@@ -3,6 +3,7 @@ use Rattle.std.specs.Arc.{arc_value}
 use Rattle.std.specs.Option.{option_map}
 use Rattle.ann_types.specs.declared.params.Params.{Params}
 use Rattle.ann_pq.specs.Codebook.{CodebookView}
+use Rattle.ann_beam.specs.Ranking.{RankingView}
 use Rattle.ann_beam.specs.Quest.{Quest, Fits, quest_of}
 use Rattle.ann_beam.proofs.Searches.{searched_ok, searched_err}
 use Rattle.ann_view.specs.View.{IndexView, IsView, shown}
@@ -10,8 +11,11 @@ use Rattle.ann_view.specs.Search.{quest_in}
 use Rattle.ann_view.proofs.Whole.{view_answers}
 use Rattle.ann_view.proofs.view.View.disk.Goals as goal
 
-pub add_long_term-requires : goal.add_long_term-requires
-add_long_term-requires g c =
+pub add_long_term-requires-clause-limit : goal.add_long_term-requires-clause-limit
+add_long_term-requires-clause-limit g c = ap (λ (r : RankingView). r.limit) c.requires.near
+
+pub add_long_term-requires-clause-fits : goal.add_long_term-requires-clause-fits
+add_long_term-requires-clause-fits g c =
     let own = c.self.inside in
     let view : IndexView g.row.S.Denot = shown own.temp own.book own.at own.next own.segment own.closed in
     let fits : Params → CodebookView → List ℕ → Type 0 = λ params book dead. Fits (quest_of (option_map arc_value own.segment) params book dead c.args.ask.now) in
