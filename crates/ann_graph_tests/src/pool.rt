@@ -37,7 +37,7 @@ fn is_next(pool: &mut Pool, number: u32) -> bool {
         number,
         visited: false,
     };
-    pool.next_unvisited() == Some(next) && pool.knows(number)
+    pool.next_unvisited() == Some(next) && pool.has_met(number)
 }
 
 // Whether a row of the table holds.
