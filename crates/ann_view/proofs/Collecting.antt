@@ -1,5 +1,5 @@
 -- Live points, added graph by graph and row by row.
-use Rattle.std.proofs.Common.{◌≡◌, ℕ, suc, ◌+◌, ◌≤◌, ◌<◌, Bool, true, false, cond, not, List, [], ◌∷◌, ◌++◌, refl, sym, ap, ◌∙◌, subst, arith, map, filter, take, drop, length, get_or, append_assoc, length-append}
+use Rattle.std.proofs.Common.{◌≡◌, ℕ, zero, suc, ◌+◌, ◌≤◌, ◌<◌, Bool, true, false, cond, not, List, [], ◌∷◌, ◌++◌, refl, sym, ap, ◌∙◌, subst, arith, map, filter, take, drop, length, get_or, append_assoc, length-append}
 use Rattle.std.specs.Prelude.{flat_map, None, Some, Result, Ok, Err, IfErr, OnErr}
 use Rattle.std.specs.Result.{IsErrAnd}
 use Rattle.std.proofs.lemmas.List.{append-nil, map-append, take_more, take_all, take-append-drop}
@@ -17,7 +17,7 @@ use Rattle.ann_vault.specs.Reads.{more_reads}
 use Rattle.ann_segment.specs.Segment.{SegmentView}
 use Rattle.ann_beam.specs.Visits.{judged, row_block}
 use Rattle.ann_beam.proofs.Readings.{reads_more}
-use Rattle.ann_view.specs.Collected.{AddsRows, Begins, Counts, Gathering, HasAdded, IsUncollected, alive_in, new_pids, pid_in, row_point_in, rows_below, undeleted}
+use Rattle.ann_view.specs.Collected.{AddsRows, Begins, Counts, Gathering, HasAdded, IsRowRefused, IsUncollected, alive_in, new_pids, pid_in, row_point_in, rows_below, undeleted}
 use Rattle.ann_view.specs.declared.collect_refused.CollectRefused.{CollectRefused}
 use Rattle.ann_view.specs.declared.collect_refused.CollectRefused.TheVariants.{Disk, BadSegment, Memory}
 
@@ -67,6 +67,10 @@ pub points_all : (dead : List ℕ) (points : List Point) (i : ℕ) (old now : Li
 points_all dead points i old now l before = before ∙ ap (λ (t : List Point). old ++ alive_in dead t) (take_all i points l)
 
 -- ---- the graphs, one after the other
+
+pub rows_count : (n : ℕ) → length (rows_below n) ≡ n
+rows_count zero = refl
+rows_count (suc n) = let before = rows_count n in let size = length-append (rows_below n) (n ∷ []) in omega arith
 
 module _ {A : Type 0} (dead : List ℕ) (f : A → List Point) (xs : List A) where
   pub graphs_more : (i : ℕ) (x : A) (old now new : List NewPoint) → i < length xs → x ≡ get_or xs i x → now ≡ old ++ alive_in dead (flat_map f (take i xs)) → new ≡ now ++ alive_in dead (f x) → new ≡ old ++ alive_in dead (flat_map f (take (i + 1) xs))
@@ -167,22 +171,23 @@ module _ {S : Type 0} (tells : Type 0) (bytes : S → List ℕ) (segment : Segme
       })
 
   -- a refusal behind reads that went well
-  pub uncollected_then : (rows : List ℕ) (old now : Gathering) (new : Counts) (why : CollectRefused) → HasAdded tells bytes segment params dead rows old now → IsUncollected tells bytes (Some segment) params now.counts new why → IsUncollected tells bytes (Some segment) params old.counts new why
-  uncollected_then rows old now new Disk a r = record {
-    reads = (r.reads.0 + length rows, r.reads.1 ∙ ap (more_reads r.reads.0) a.reads ∙ reads_more r.reads.0 (length rows) old.counts.reads);
-    faulty = r.faulty ∙ ap next_count a.calm;
+  pub uncollected_at : (row : ℕ) (old now : Gathering) (new : Counts) (why : CollectRefused) → row < length segment.items → HasAdded tells bytes segment params dead (rows_below row) old now → IsRowRefused tells bytes segment params row now.counts new why → IsUncollected tells bytes (Some segment) params old.counts new why
+  uncollected_at row old now new Disk within a r = record {
+    reads = (length (rows_below row), r.0 ∙ a.reads);
+    faulty = r.1 ∙ ap next_count a.calm;
   }
-  uncollected_then rows old now new (BadSegment block) a r = record {
-    row = r.row;
-    within = r.within;
+  uncollected_at row old now new (BadSegment block) within a r = record {
+    row = row;
+    within = within;
     place = r.place;
     bad = r.bad;
-    reads = (r.reads.0 + length rows, r.reads.1 ∙ ap (more_reads (suc r.reads.0)) a.reads ∙ ap next_count (reads_more r.reads.0 (length rows) old.counts.reads));
+    first = a.sound;
+    reads = r.reads ∙ ap next_count (a.reads ∙ ap (λ n. more_reads n old.counts.reads) (rows_count row));
     calm = r.calm ∙ a.calm;
   }
-  uncollected_then rows old now new Memory a r = record {
-    reads = (r.reads.0 + length rows, r.reads.1 ∙ ap (more_reads r.reads.0) a.reads ∙ reads_more r.reads.0 (length rows) old.counts.reads);
-    calm = r.calm ∙ a.calm;
+  uncollected_at row old now new Memory within a r = record {
+    reads = (suc (length (rows_below row)), r.0 ∙ ap next_count a.reads);
+    calm = r.1 ∙ a.calm;
   }
 
 -- a refusal that is handed on

@@ -19,7 +19,7 @@ use Rattle.ann_segment.proofs.Holding.{holds_count, holds_row}
 use Rattle.ann_view.specs.View.{IndexView, whole, item_pids, segment_pids, pids_in}
 use Rattle.ann_view.specs.Holding.{HoldsGraph}
 use Rattle.ann_view.specs.Collected.{AddsSegment, StopsInSegment, Begins, Counts, Gathering, HasBegun, HasCollected, Reads, alive_in, live_points, new_pids, pid_in, points_read, row_point_in, rows_below, told_points, undeleted}
-use Rattle.ann_view.proofs.Collecting.{alive_append}
+use Rattle.ann_view.proofs.Collecting.{alive_append, rows_count}
 
 -- ---- rows and lists
 
@@ -48,10 +48,6 @@ rows_begin (suc k) n =
 
 rows_to : (n m : ℕ) → n ≤ m → Begins (rows_below n) (rows_below m)
 rows_to n m l = subst (λ (k : ℕ). Begins (rows_below n) (rows_below k)) (let e : n + (m - n) ≡ m = omega arith in e) (rows_begin (m - n) n)
-
-rows_count : (n : ℕ) → length (rows_below n) ≡ n
-rows_count zero = refl
-rows_count (suc n) = let before = rows_count n in let size = length-append (rows_below n) (n ∷ []) in omega arith
 
 -- beginnings of what is made of lists
 begins_map : {A B : Type 0} (f : A → B) (front all : List A) → Begins front all → Begins (map f front) (map f all)

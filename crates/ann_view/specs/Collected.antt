@@ -107,13 +107,14 @@ pub record HasFailed (old new : Counts) : Type 0 where
   pub reads : (n : ℕ) × (new.reads ≡ more_reads n old.reads)
   pub faulty : new.faults ≡ next_count old.faults
 
--- the block of a row was read; told, it is outside the format
+-- the block of a row was read, the next one after those of the rows below it; told, it is the first outside the format
 pub record IsBadRow {S : Type 0} (tells : Type 0) (bytes : S → List ℕ) (segment : SegmentView S) (params : Params) (block : ℕ) (old new : Counts) : Type 0 where
   pub row : ℕ
   pub within : row < length segment.items
   pub place : block ≡ node_block segment row
   pub bad : tells → judged segment params (row_block segment (bytes segment.seal) row) row ≢ None
-  pub reads : (n : ℕ) × (new.reads ≡ more_reads (suc n) old.reads)
+  pub first : tells → AllByRecursion (λ below. judged segment params (row_block segment (bytes segment.seal) below) below ≡ None) (rows_below row)
+  pub reads : new.reads ≡ more_reads (suc row) old.reads
   pub calm : new.faults ≡ old.faults
 
 abbrev pub IsBadRowIn : {S : Type 0} → Type 0 → (S → List ℕ) → Option (SegmentView S) → Params → ℕ → Counts → Counts → Type 0
@@ -127,6 +128,19 @@ IsUncollected tells bytes segment params old new (BadSegment block) = IsBadRowIn
 IsUncollected tells bytes segment params old new Memory = Reads old new
 
 -- ---- on the way
+
+-- the block of this row was read once; told, it is outside the format
+pub record IsBadHere {S : Type 0} (tells : Type 0) (bytes : S → List ℕ) (segment : SegmentView S) (params : Params) (row block : ℕ) (old new : Counts) : Type 0 where
+  pub place : block ≡ node_block segment row
+  pub bad : tells → judged segment params (row_block segment (bytes segment.seal) row) row ≢ None
+  pub reads : new.reads ≡ next_count old.reads
+  pub calm : new.faults ≡ old.faults
+
+-- a row may be refused so: its block couldn't be read, or it was read and is bad, or there is no memory for its point
+abbrev pub IsRowRefused : {S : Type 0} → Type 0 → (S → List ℕ) → SegmentView S → Params → ℕ → Counts → Counts → CollectRefused → Type 0
+IsRowRefused tells bytes segment params row old new Disk = (new.reads ≡ old.reads) × (new.faults ≡ next_count old.faults)
+IsRowRefused tells bytes segment params row old new (BadSegment block) = IsBadHere tells bytes segment params row block old new
+IsRowRefused tells bytes segment params row old new Memory = (new.reads ≡ next_count old.reads) × (new.faults ≡ old.faults)
 
 -- the points so far, and the counts
 pub record Gathering : Type 0 where

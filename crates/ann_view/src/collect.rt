@@ -5,7 +5,7 @@ ghost use Rattle.std.specs.Option.{option_map};
 ghost use Rattle.ann_table.specs.Node.{graph_of, node_at, point_of};
 ghost use Rattle.ann_frozen.specs.Frozen.{FrozenView};
 ghost use Rattle.ann_view.specs.Collected.{AddsSegment, Begins, HasAdded, HasBegun, HasCollected};
-ghost use Rattle.ann_view.specs.Collected.{IsUncollected, StopsIn, StopsInSegment};
+ghost use Rattle.ann_view.specs.Collected.{IsRowRefused, IsUncollected, StopsIn, StopsInSegment};
 ghost use Rattle.ann_view.specs.Collected.{alive_in, counts_of, gathering, rows_below};
 
 use crate::collect_refused::CollectRefused;
@@ -101,7 +101,7 @@ fn add_row<S: Sealed, E: Eye<Seal = S>>(
         (gathering out.old (E.reads eye.old) (E.faults eye.old))
         (gathering out.new (E.reads eye.new) (E.faults eye.new))) }
     ensures kept { OnErr result (out.new ≡ out.old) }
-    ensures refused { IfErr result (IsUncollected S.tells S.bytes (Some segment.now) params.now
+    ensures refused { IfErr result (IsRowRefused S.tells S.bytes segment.now params.now row
         (counts_of (E.reads eye.old) (E.faults eye.old)) (counts_of (E.reads eye.new) (E.faults eye.new))) }
 {
     let block = segment.node_block(row);
@@ -177,7 +177,7 @@ impl<S: Sealed> View<S> {
     ///
     /// # Errors
     ///
-    /// `Disk` where a read failed, `BadSegment` with a block that was read and is outside the format, and
+    /// `Disk` where a read failed, `BadSegment` with the first block that was read and is outside the format, and
     /// `Memory`. The list then has the first of the live points.
     pub fn collect<E: Eye<Seal = S>>(
         &self,

@@ -5,22 +5,22 @@ use Rattle.ann_types.specs.declared.params.Params.{Params}
 use Rattle.ann_block.specs.Node.{NodeFields, node_of}
 use Rattle.ann_segment.specs.Segment.{SegmentView}
 use Rattle.ann_beam.specs.Visits.{judged, row_block}
-use Rattle.ann_view.specs.Collected.{IsUncollected, counts_of, pid_in, row_point_in}
+use Rattle.ann_view.specs.Collected.{IsRowRefused, counts_of, pid_in, row_point_in}
 use Rattle.ann_view.specs.declared.collect_refused.CollectRefused.TheVariants.{Memory}
 use Rattle.ann_view.proofs.Collecting.{asked, pid_alive, pid_dead, row_alive, row_dead, uncollected_as}
 use Rattle.ann_view.proofs.collect.add_row.Goals as goal
 
 pub returns-in_err-copy-clause-refused : goal.returns-in_err-copy-clause-refused
 returns-in_err-copy-clause-refused g c =
-    uncollected_as (IsUncollected g.S.Sealed.tells g.S.Sealed.bytes (Some c.args.segment.now) c.args.params.now (counts_of (g.E.Eye.reads c.args.eye.now) (g.E.Eye.faults c.args.eye.now)) (counts_of (g.E.Eye.reads c.read.new.self) (g.E.Eye.faults c.read.new.self)))
+    uncollected_as (IsRowRefused g.S.Sealed.tells g.S.Sealed.bytes c.args.segment.now c.args.params.now c.args.row (counts_of (g.E.Eye.reads c.args.eye.now) (g.E.Eye.faults c.args.eye.now)) (counts_of (g.E.Eye.reads c.read.new.self) (g.E.Eye.faults c.read.new.self)))
     c.from_residual-in_err-copy.result Memory c.from_residual-in_err-copy.ensures.1
-    (record { reads = (1, c.in_ok-read.ensures.counted); calm = c.in_ok-read.ensures.cause.calm })
+    (c.in_ok-read.ensures.counted, c.in_ok-read.ensures.cause.calm)
 
 pub returns-in_err-push-clause-refused : goal.returns-in_err-push-clause-refused
 returns-in_err-push-clause-refused g c =
-    uncollected_as (IsUncollected g.S.Sealed.tells g.S.Sealed.bytes (Some c.args.segment.now) c.args.params.now (counts_of (g.E.Eye.reads c.args.eye.now) (g.E.Eye.faults c.args.eye.now)) (counts_of (g.E.Eye.reads c.read.new.self) (g.E.Eye.faults c.read.new.self)))
+    uncollected_as (IsRowRefused g.S.Sealed.tells g.S.Sealed.bytes c.args.segment.now c.args.params.now c.args.row (counts_of (g.E.Eye.reads c.args.eye.now) (g.E.Eye.faults c.args.eye.now)) (counts_of (g.E.Eye.reads c.read.new.self) (g.E.Eye.faults c.read.new.self)))
     c.from_residual-in_err-push.result Memory c.from_residual-in_err-push.ensures.1
-    (record { reads = (1, c.in_ok-read.ensures.counted); calm = c.in_ok-read.ensures.cause.calm })
+    (c.in_ok-read.ensures.counted, c.in_ok-read.ensures.cause.calm)
 
 pub returns-then-contains-clause-added : goal.returns-then-contains-clause-added
 returns-then-contains-clause-added g c =

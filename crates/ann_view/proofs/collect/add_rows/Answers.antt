@@ -1,7 +1,7 @@
 use Rattle.std.proofs.Common.{◌≡◌, ℕ, List, refl, sym, subst, length, arith}
 use Rattle.ann_types.specs.declared.new_point.NewPoint.{NewPoint}
 use Rattle.ann_view.specs.Collected.{HasAdded, AddsRows, gathering, rows_below}
-use Rattle.ann_view.proofs.Collecting.{added_none, added_more, on_err, uncollected_as, uncollected_then}
+use Rattle.ann_view.proofs.Collecting.{added_none, added_more, on_err, uncollected_as, uncollected_at}
 use Rattle.ann_view.proofs.collect.add_rows.Goals as goal
 
 pub loop-row-init : goal.loop-row-init
@@ -22,7 +22,7 @@ returns-in_err-add_row-clause-stopped g c =
 pub returns-in_err-add_row-clause-refused : goal.returns-in_err-add_row-clause-refused
 returns-in_err-add_row-clause-refused g c =
     uncollected_as _ c.from_residual.result _ c.from_residual.ensures.1
-    (uncollected_then _ _ c.args.segment.now c.args.params.now c.args.dead.now _ _ _ _ _ c.loop-row.invariant c.in_err-add_row.ensures.refused)
+    (uncollected_at _ _ c.args.segment.now c.args.params.now c.args.dead.now c.loop-row.row _ _ _ _ (let more = c.loop-row-test.true in let count = c.count-row-end.ensures in omega arith) c.loop-row.invariant c.in_err-add_row.ensures.refused)
 
 pub returns-clause-added : goal.returns-clause-added
 returns-clause-added g c =
