@@ -7,6 +7,9 @@ use ann_lanes::{squared, touched};
 use ann_pool::Pool;
 use std::alloc::AllocError;
 
+/// From how many components on a vector is read ahead of its use: a shorter one shares its line of the cache with others.
+const LONG: usize = 32;
+
 /// Offers a row at its distance, unless the pool knows that it was offered before.
 fn offer<G: Graph>(graph: &G, query: &[u8], pool: &mut Pool, row: u32)
     requires row { row < (G.rows graph.now).count }
@@ -42,7 +45,9 @@ fn offer_all<G: Graph>(graph: &G, query: &[u8], pool: &mut Pool, rows: &[u32])
     ensures kept { IsKept (G.rows graph.now) query.now pool.old pool.new }
     ensures shows { Meets (G.rows graph.now) query.now rows.now pool.old pool.new }
 {
-    pool.keep_warm(touch_all(graph, pool, rows));
+    if query.len() >= LONG {
+        pool.keep_warm(touch_all(graph, pool, rows));
+    }
     for row in rows {
         offer(graph, query, pool, *row);
     }
