@@ -12,12 +12,12 @@ crate, and `ann_bench` is made in FOLDER/repository, beside a copy of the crates
 makes it. Both sides are compiled for the same processor, x86-64-v2.
 """
 import os
-import shutil
 import subprocess
 import sys
 
+from repository import TOP, built, built_beside
+
 HERE = os.path.dirname(os.path.abspath(__file__))
-TOP = os.path.dirname(HERE)
 D, R, L, ALPHA = "128", "64", "75", "12/10"
 WIDTHS = (10, 50, 100, 200)
 SEARCHES = 5000
@@ -26,36 +26,14 @@ ENTRIES = 300000
 BENCH = "ann_bench: ann_types ann_lanes ann_pool ann_greedy ann_table ann_insert ann_bytes ann_pq ann_block ann_log ann_disk"
 
 
-def built(crate, *words):
-    """The program that the kit built of a crate, which lies in this folder; with these words it ends at once."""
-    path = os.path.join(crate, "out", os.path.basename(crate))
-    if not os.path.exists(path):
-        run = ["rt", "run", "--", *words]
-        subprocess.run(run, cwd=crate, stdin=subprocess.DEVNULL, stdout=subprocess.DEVNULL, check=True)
-    return path
-
-
 def index_program():
     """The program itself."""
     return built(os.path.join(TOP, "crates", "ann_program"), "once", "2", "2", "4", "1/1")
 
 
 def timing_program(folder):
-    """The program that times the kernels, made in a copy of the crates. Its sources end in .txt here, so that the gate takes
-    them for no crate."""
-    there = os.path.join(folder, "repository")
-    crate = os.path.join(there, "crates", "ann_bench")
-    if not os.path.exists(crate):
-        left_out = shutil.ignore_patterns("out")
-        shutil.copytree(os.path.join(TOP, "crates"), os.path.join(there, "crates"), ignore=left_out)
-        shutil.copy(os.path.join(TOP, "HANDLES"), there)
-        with open(os.path.join(there, "crates.txt"), "w") as out:
-            out.write(open(os.path.join(TOP, "crates.txt")).read() + BENCH + "\n")
-        shutil.copytree(os.path.join(HERE, "ann_bench"), crate)
-        for path, _, names in os.walk(crate):
-            for name in names:
-                os.rename(os.path.join(path, name), os.path.join(path, name.removesuffix(".txt")))
-    return built(crate, "40", "1")
+    """The program that times the kernels."""
+    return built_beside(folder, BENCH, "40", "1")
 
 
 def compiled(folder, name, *flags):

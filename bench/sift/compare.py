@@ -1,7 +1,7 @@
 #!/usr/bin/env python3
 """Times the index beside its twin in C++, hnswlib and faiss, in turns, over SIFT descriptors of photographs.
 
-    sift.py FOLDER [POINTS=100000] [TURNS=3]
+    compare.py FOLDER [POINTS=100000] [TURNS=3]
 
 FOLDER takes the vectors (by make.sh, where they aren't there yet) and the programs. The index is `ann_sift`, which is made
 in FOLDER/repository beside a copy of the crates, and proved before it is built. All C++ is compiled by g++ -O3 for x86-64-v2,
@@ -9,13 +9,13 @@ which is what the kit makes for. Each figure is the least of the turns, in proce
 libfaiss-dev, libopenblas-dev, python3-opencv and python3-numpy.
 """
 import os
-import shutil
 import subprocess
 import sys
 
 HERE = os.path.dirname(os.path.abspath(__file__))
-BENCH = os.path.dirname(HERE)
-TOP = os.path.dirname(BENCH)
+sys.path.append(os.path.dirname(HERE))
+from repository import built_beside
+
 LINE = "ann_sift: ann_types ann_pool ann_greedy ann_table ann_insert"
 # R, L and alpha of the index, and the widths of searches; hnswlib and faiss have M = R / 2 or 32, and build 75 wide.
 SETTINGS = [("64", "75", "12", "10"), ("32", "50", "11", "10")]
@@ -30,22 +30,8 @@ def made(folder, name, *flags):
 
 
 def index_program(folder):
-    """The proved program, made in a copy of the crates. Its sources end in .txt here, so that the gate takes them for no crate."""
-    there = os.path.join(folder, "repository")
-    crate = os.path.join(there, "crates", "ann_sift")
-    if not os.path.exists(crate):
-        shutil.copytree(os.path.join(TOP, "crates"), os.path.join(there, "crates"), ignore=shutil.ignore_patterns("out"))
-        shutil.copy(os.path.join(TOP, "HANDLES"), there)
-        with open(os.path.join(there, "crates.txt"), "w") as out:
-            out.write(open(os.path.join(TOP, "crates.txt")).read() + LINE + "\n")
-        shutil.copytree(os.path.join(BENCH, "ann_sift"), crate)
-        for path, _, names in os.walk(crate):
-            for name in names:
-                os.rename(os.path.join(path, name), os.path.join(path, name.removesuffix(".txt")))
-    program = os.path.join(crate, "out", "ann_sift")
-    if not os.path.exists(program):
-        subprocess.run(["rt", "run", "--", "0"], cwd=crate, stdin=subprocess.DEVNULL, stdout=subprocess.DEVNULL, check=True)
-    return program
+    """The proved program of the index."""
+    return built_beside(folder, LINE, "0")
 
 
 def exact_tens(path):
