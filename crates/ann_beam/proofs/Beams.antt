@@ -21,7 +21,8 @@ use Rattle.ann_types.proofs.Graphs.{IsEntry, entry_from_graph}
 use Rattle.ann_types.proofs.Merges.{pids_decoded}
 use Rattle.ann_types.proofs.Coded.{HasWidth, IsCode, code_is_code, length_code}
 use Rattle.ann_types.proofs.Renamed.{Below, Renames, below_append, below_take, below_filter, below_near, rounds_map}
-use Rattle.ann_types.proofs.Rowed.{pid_at, pid_of_at, links_at, tag_at, far_at, renames_at}
+use Rattle.ann_types.specs.Rows.{pid_at}
+use Rattle.ann_types.proofs.Rowed.{pid_of_at, links_at, tag_at, far_at, renames_at}
 use Rattle.ann_pq.specs.Codebook.{CodebookView}
 use Rattle.ann_pq.specs.Tables.{AreTablesOf, looked_up}
 use Rattle.ann_pq.proofs.Sums.{guided_is}
@@ -34,7 +35,8 @@ use Rattle.ann_segment.proofs.Holding.{IsRowOf, point_at, has_row, names_back, b
 use Rattle.ann_beam.specs.Ranking.{Ranked, rank, with_all}
 use Rattle.ann_vault.specs.Reads.{more_reads}
 use Rattle.ann_beam.specs.Candidates.{far_row}
-use Rattle.ann_beam.specs.Visits.{IsBadNode, alive, block_at, links_in, node_in, point_in}
+use Rattle.ann_segment.specs.Rows.{IsBadNode, block_at, links_in, node_in}
+use Rattle.ann_beam.specs.Visits.{alive, point_in}
 use Rattle.ann_beam.specs.Quest.{Standing}
 use Rattle.ann_beam.specs.Progress.{Sight, Route, HasVisited, ground_at, sight_in}
 use Rattle.ann_beam.specs.Refusals.{HasGone, IsRefusedFor}

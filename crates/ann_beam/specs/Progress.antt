@@ -13,7 +13,8 @@ use Rattle.ann_beam.specs.Ranking.{Ranked, with_all}
 use Rattle.ann_vault.specs.Reads.{more_reads}
 use Rattle.ann_beam.specs.Quest.{Standing}
 use Rattle.ann_beam.specs.Candidates.{far_row}
-use Rattle.ann_beam.specs.Visits.{alive, judged, links_in, point_in, row_block}
+use Rattle.ann_segment.specs.Rows.{judged, links_in, row_block}
+use Rattle.ann_beam.specs.Visits.{alive, point_in}
 
 -- what is seen of rows: how many points may be ranked and which are deleted; and of each row how far it is by its code,
 -- its neighbours, its point, and why its block is refused, if it is

@@ -5,7 +5,7 @@ use Rattle.ann_segment.specs.Segment.{SegmentView}
 use Rattle.ann_fault.specs.Counts.{next_count}
 use Rattle.ann_vault.specs.Reads.{more_reads}
 use Rattle.ann_beam.specs.Quest.{Standing}
-use Rattle.ann_beam.specs.Visits.{IsBadNode, block_at}
+use Rattle.ann_segment.specs.Rows.{IsBadNode, block_at}
 use Rattle.ann_beam.specs.declared.refused.SearchRefused.{SearchRefused}
 use Rattle.ann_beam.specs.declared.refused.SearchRefused.TheVariants.{Dimension, Disk, BadSegment, Shut}
 

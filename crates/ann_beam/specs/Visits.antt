@@ -1,29 +1,12 @@
 -- What a beam sees of the rows of a segment.
-use Rattle.std.specs.Prelude.{◌≡◌, ◌≢◌, ℕ, ◌+◌, ◌*◌, ◌<◌, not, List, Option, None, filter, length, slice_range}
+use Rattle.std.specs.Prelude.{ℕ, not, List, filter}
 use Rattle.ann_types.specs.Distance.{distance}
 use Rattle.ann_types.specs.Order.{has}
-use Rattle.ann_types.specs.declared.params.Params.{Params}
-use Rattle.ann_block.specs.Node.{NodeFields, node_of, judge_node}
-use Rattle.ann_block.specs.declared.refused.BlockRefused.{BlockRefused}
+use Rattle.ann_block.specs.Node.{NodeFields}
 use Rattle.ann_segment.specs.Directory.{Item, item_of}
-use Rattle.ann_segment.specs.Segment.{SegmentView, node_block}
+use Rattle.ann_segment.specs.Segment.{SegmentView}
+use Rattle.ann_segment.specs.Rows.{node_in}
 use Rattle.ann_beam.specs.Ranking.{Ranked}
-
--- a block of some bytes
-abbrev pub block_at : List ℕ → ℕ → List ℕ
-block_at bytes block = slice_range bytes (4096 * block) (4096 * block + 4096)
-
--- the block of a row of a segment with these bytes
-abbrev pub row_block : {S : Type 0} → SegmentView S → List ℕ → ℕ → List ℕ
-row_block segment bytes row = block_at bytes (node_block segment row)
-
--- the node in a row of a segment with these bytes, for vectors of d components
-abbrev pub node_in : {S : Type 0} → SegmentView S → List ℕ → ℕ → ℕ → NodeFields
-node_in segment bytes d row = node_of d (row_block segment bytes row)
-
--- the neighbours of a row of a segment with these bytes
-abbrev pub links_in : {S : Type 0} → SegmentView S → List ℕ → ℕ → ℕ → List ℕ
-links_in segment bytes d row = (node_in segment bytes d row).neighbours
 
 -- a row's point at its exact distance
 abbrev pub point_of : List Item → List ℕ → ℕ → NodeFields → Ranked
@@ -36,14 +19,3 @@ point_in segment bytes d query row = point_of segment.items query row (node_in s
 -- those of the points that aren't deleted
 abbrev pub alive : List ℕ → List Ranked → List Ranked
 alive dead points = filter (λ x. not (has dead x.pid)) points
-
--- why a page isn't the node block of a row; none where it is
-abbrev pub judged : {S : Type 0} → SegmentView S → Params → List ℕ → ℕ → Option BlockRefused
-judged segment params page row = judge_node page (item_of segment.items row).0 row (length segment.items) params
-
--- a page isn't the node block of the row that has this block
-pub record IsBadNode {S : Type 0} (segment : SegmentView S) (params : Params) (page : List ℕ) (block : ℕ) : Type 0 where
-  pub row : ℕ
-  pub within : row < length segment.items
-  pub place : block ≡ node_block segment row
-  pub refused : judged segment params page row ≢ None

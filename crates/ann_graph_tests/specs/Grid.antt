@@ -1,7 +1,7 @@
 -- Points ten apart, in rows of three, by which the tests know what is kept.
 use Rattle.std.specs.Prelude.{◌≡◌, ℕ, ◌*◌, ◌/◌, ◌%◌, List, [], ◌∷◌}
 use Rattle.ann_types.specs.Distance.{distance}
-use Rattle.ann_table.specs.Near.{distance_itself, distance_symmetric}
+use Rattle.ann_types.proofs.Distances.{distance_itself, distance_symmetric}
 
 abbrev pub point_on_grid : ℕ → List ℕ
 point_on_grid row = 10 * (row % 3) ∷ 10 * (row / 3) ∷ []

@@ -4,7 +4,6 @@ ghost use Rattle.ann_types.specs.Kept.{rule_of, within};
 ghost use Rattle.ann_table.specs.Node.{node_at, linked, apart_rows};
 ghost use Rattle.ann_insert.specs.Back.{IsBehind, AreApart, AreSameButLinks, AreLinkedBack, most};
 
-use crate::gather::{add_within, gather};
 use ann_greedy::Graph;
 use ann_lanes::touched;
 use ann_prune::{Candidates, prune_newer};
@@ -30,7 +29,7 @@ fn gather_warm(table: &Table, candidates: &mut Candidates, rows: &[u32])
     ensures room { candidates.old.room ≤ candidates.new.room + length rows.now }
 {
     candidates.keep_warm(touch_all(table, rows));
-    gather(candidates, rows);
+    candidates.add_all_within(rows);
 }
 
 /// Links a row back to a new one: the new one is a neighbour of it, or its neighbours are what a prune keeps where they
@@ -62,7 +61,7 @@ fn link_back(
         return;
     }
     gather_warm(table, candidates, table.neighbours(row));
-    add_within(candidates, new);
+    candidates.add_within(new);
     prune_newer(
         table,
         row,

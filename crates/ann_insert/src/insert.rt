@@ -6,7 +6,6 @@ ghost use Rattle.ann_table.specs.Node.{node_at, linked, apart_rows, row_pids, gr
 ghost use Rattle.ann_insert.specs.Scratch.{IsReady};
 
 use crate::back::link_all_back;
-use crate::gather::gather;
 use crate::scratch::PutScratch;
 use ann_greedy::{Graph, walk_visited};
 use ann_prune::{Candidates, prune};
@@ -56,7 +55,7 @@ fn link(
     ensures emptied { candidates.new.rows ≡ [] }
     ensures kept_room { candidates.old.room ≤ candidates.new.room }
 {
-    gather(candidates, others);
+    candidates.add_all_within(others);
     prune(table, row, candidates, table.params(), kept);
     table.set_kept(row, kept);
 }

@@ -5,7 +5,6 @@
 #![tactic(auto)]
 
 mod back;
-mod gather;
 mod insert;
 mod scratch;
 

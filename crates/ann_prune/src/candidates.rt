@@ -62,6 +62,26 @@ impl Candidates {
         Ok(())
     }
 
+    /// Adds a row within the room that there is, so it takes no memory and can't fail.
+    pub fn add_within(&mut self, row: u32)
+        requires room { 1 ≤ self.old.room }
+        ensures rows { self.new.rows ≡ self.old.rows ++ row ∷ [] }
+        ensures room { self.old.room ≤ self.new.room + 1 }
+    {
+        let _ = self.add(row);
+    }
+
+    /// Adds rows in turn, within the room that there is.
+    pub fn add_all_within(&mut self, rows: &[u32])
+        requires room { length rows.now ≤ self.old.room }
+        ensures rows { self.new.rows ≡ self.old.rows ++ rows.now }
+        ensures room { self.old.room ≤ self.new.room + length rows.now }
+    {
+        for row in rows {
+            self.add_within(*row);
+        }
+    }
+
     /// Keeps a byte that was read ahead of its use, so that the read is done. To contracts nothing changes.
     pub fn keep_warm(&mut self, byte: u8)
         ensures { self.new ≡ self.old }

@@ -4,3 +4,4 @@ pub mod Segment
 pub mod Writer
 pub mod Opening
 pub mod Holds
+pub mod Rows

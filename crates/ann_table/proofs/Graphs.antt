@@ -8,11 +8,12 @@ use Rattle.ann_types.specs.Graph.{Point, pids_of, links_of, far_from, apart_in, 
 use Rattle.ann_types.specs.declared.params.Params.{Params}
 use Rattle.ann_types.proofs.Sets.{Rises, rises_from_increasing}
 use Rattle.ann_types.proofs.Renamed.{Below, Renames, visited_map, near_visited_map}
-use Rattle.ann_types.proofs.Rowed.{pid_at, links_at, far_at, apart_at, renames_at}
+use Rattle.ann_types.specs.Rows.{pid_at}
+use Rattle.ann_types.proofs.Rowed.{links_at, far_at, apart_at, renames_at}
 use Rattle.ann_greedy.specs.Rows.{far_row, ground_at, visited_rows, near_rows}
 use Rattle.ann_table.specs.Node.{Node, nothing, node_at, rows_of, first_row, apart_rows, row_pids, row_pid, point_of, graph_of}
 use Rattle.ann_table.specs.Table.{AreNodes}
-use Rattle.ann_table.proofs.Settled.{each_of}
+use Rattle.std.proofs.lemmas.List.Elements.{recursion_from_All}
 
 -- ---- Pids
 
@@ -67,7 +68,7 @@ module _ (params : Params) (nodes : List Node) (sound : AreNodes params nodes) w
   links_below : (row : ℕ) → row < length (graph_of nodes).points → Below (length (graph_of nodes).points) (node_at nodes row).links
   links_below row l =
       subst (λ n. Below n (node_at nodes row).links) (sym (length_points nodes))
-      (each_of (λ other. other < length nodes) (node_at nodes row).links (sound.each row (inside_points row l)).links.inside)
+      (recursion_from_All (λ other. other < length nodes) (node_at nodes row).links (sound.each row (inside_points row l)).links.inside)
 
   far_by_pid : (query : List ℕ) (row : ℕ) → row < length (graph_of nodes).points → far_from (graph_of nodes).points query (pid_at (graph_of nodes).points row) ≡ far_row (rows_of params nodes) query row
   far_by_pid query row l =

@@ -5,20 +5,8 @@ use Rattle.std.proofs.lemmas.Bool.{false≢true}
 use Rattle.ann_types.specs.Order.{has, before}
 use Rattle.ann_types.specs.Kept.{Rule}
 use Rattle.ann_types.proofs.Ordered.{has_cases}
+use Rattle.ann_types.proofs.Neighbours.{holds_of}
 use Rattle.ann_prune.specs.Newer.{AreSettled}
-
--- the same by recursion
-pub each_of : {A : Type 0} (P : A → Type 0) (xs : List A) → All P xs → AllByRecursion P xs
-each_of P [] a = tt
-each_of P (x ∷ xs) a = (a 0 x (omega arith), each_of P xs (λ k d l. a (suc k) d (omega arith)))
-
--- what holds of each holds of those that a list has
-pub has_all : (P : ℕ → Type 0) (xs : List ℕ) (z : ℕ) → All P xs → has xs z ≡ true → P z
-has_all P [] z a h = absurd (false≢true h)
-has_all P (x ∷ xs) z a h = elim (has_cases x z xs h) [
-  | inl e ↦ subst P (sym (eqb-true z x e)) (a 0 0 (omega arith))
-  | inr m ↦ has_all P xs z (λ k d l. a (suc k) d (omega arith)) m
-]
 
 has_append : (xs : List ℕ) (y z : ℕ) → has (xs ++ y ∷ []) z ≡ true → z < y → has xs z ≡ true
 has_append [] y z h l = elim (has_cases y z [] h) [ inl e ↦ absurd (let same = eqb-true z y e in omega arith) | inr m ↦ m ]
@@ -40,8 +28,8 @@ AreSame n apart apart' = (x y : ℕ) → x < n → y < n → apart' x y ≡ apar
 pub settled_same : (n : ℕ) (rule : Rule) (apart apart' : ℕ → ℕ → ℕ) (p newer : ℕ) (rows : List ℕ) → AreSame n apart apart' → p < n → All (λ row. row < n) rows → AreSettled rule apart p newer rows → AreSettled rule apart' p newer rows
 settled_same n rule apart apart' p newer rows same h a s = record {
   settled = λ k c i j m o b.
-      let k_in : k < n = has_all (λ row. row < n) rows k a i in
-      let c_in : c < n = has_all (λ row. row < n) rows c a j in
+      let k_in : k < n = holds_of (λ row. row < n) rows k a i in
+      let c_in : c < n = holds_of (λ row. row < n) rows c a j in
       let to_k : apart' p k ≡ apart p k = same p k h k_in in
       let to_c : apart' p c ≡ apart p c = same p c h c_in in
       let between : apart' k c ≡ apart k c = same k c k_in c_in in

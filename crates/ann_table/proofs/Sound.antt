@@ -12,7 +12,8 @@ use Rattle.ann_types.specs.declared.params.Params.{Params}
 use Rattle.ann_types.proofs.Sets.{Rises, rises_from_increasing, increasing_from_rises, rises_push}
 use Rattle.ann_prune.specs.Newer.{AreSettled}
 use Rattle.ann_table.specs.Node.{Node, nothing, node_at, row_pids, apart_rows, linked}
-use Rattle.ann_table.specs.Table.{AreNeighbours, IsNode, AreNodes}
+use Rattle.ann_types.specs.Rows.{AreNeighbours}
+use Rattle.ann_table.specs.Table.{IsNode, AreNodes}
 use Rattle.ann_table.proofs.Settled.{AreSame, settled_same}
 use Rattle.ann_prune.proofs.Prunes.{settled_none}
 

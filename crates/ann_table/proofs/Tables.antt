@@ -9,9 +9,10 @@ use Rattle.ann_prune.specs.Newer.{AreSettled}
 use Rattle.ann_table.specs.declared.label.Label.{Label}
 use Rattle.ann_table.specs.Lists.{Lists}
 use Rattle.ann_table.specs.Node.{Node, node_at, first_row, apart_rows, linked}
-use Rattle.ann_table.specs.Table.{TableView, AreNeighbours, AreNodes, AreStored, node, nodes_of}
+use Rattle.ann_types.specs.Rows.{AreNeighbours}
+use Rattle.ann_table.specs.Table.{TableView, AreNodes, AreStored, node, nodes_of}
 use Rattle.ann_table.proofs.Nodes.{length_nodes, at_nodes, push_nodes, link_nodes, append_nodes}
-use Rattle.ann_table.proofs.Settled.{each_of}
+use Rattle.std.proofs.lemmas.List.Elements.{recursion_from_All}
 use Rattle.ann_table.proofs.Sound.{few_nodes, nodes_linked, nodes_added}
 
 abbrev pub shown : Params → List Node → ℕ → TableView
@@ -143,7 +144,7 @@ stored_set params spare count room rows edges edges' i links s p l e =
 
 pub neighbours_push : (params : Params) (count row y : ℕ) (links : List ℕ) → AreNeighbours params count row links → y < count → y ≢ row → All (λ other. other < y) links → length links < params.r → AreNeighbours params count row (links ++ y ∷ [])
 neighbours_push params count row y links s inside other above few = record {
-  rising = increasing_from_rises (links ++ y ∷ []) (rises_push links y (rises_from_increasing links s.rising) (each_of (λ x. x < y) links above));
+  rising = increasing_from_rises (links ++ y ∷ []) (rises_push links y (rises_from_increasing links s.rising) (recursion_from_All (λ x. x < y) links above));
   inside = All-push (λ x. x < count) links y s.inside inside;
   others = All-push (λ x. x ≢ row) links y s.others other;
   few = (let size = length-append links (y ∷ []) in omega arith);

@@ -1,4 +1,3 @@
 pub mod Lists
-pub mod Near
 pub mod Node
 pub mod Table

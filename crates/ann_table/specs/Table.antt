@@ -3,6 +3,7 @@ use Rattle.std.specs.Prelude.{◌≡◌, ◌≢◌, ◌≤◌, ◌<◌, ◌+◌,
 use Rattle.std.specs.List.Sorted.{IsStrictlyIncreasing}
 use Rattle.ann_types.specs.Kept.{rule_of}
 use Rattle.ann_types.specs.Legal.{pid_end}
+use Rattle.ann_types.specs.Rows.{AreNeighbours}
 use Rattle.ann_types.specs.declared.params.Params.{Params}
 use Rattle.ann_prune.specs.Newer.{AreSettled}
 use Rattle.ann_table.specs.Lists.{Lists}
@@ -14,13 +15,6 @@ pub record TableView : Type 0 where
   pub params : Params
   pub nodes : List Node
   pub spare : ℕ
-
--- these may be the neighbours of a row: other rows in ascending order, at most R
-pub record AreNeighbours (params : Params) (count row : ℕ) (links : List ℕ) : Type 0 where
-  pub rising : IsStrictlyIncreasing links
-  pub inside : All (λ other. other < count) links
-  pub others : All (λ other. other ≢ row) links
-  pub few : length links ≤ params.r
 
 -- a node in its row: a vector of d components, neighbours, and of those below `newer` none leaves out a later one
 pub record IsNode (params : Params) (nodes : List Node) (row : ℕ) (x : Node) : Type 0 where

@@ -3,7 +3,8 @@ ghost use Rattle.ann_types.specs.Kept.{rule_of};
 ghost use Rattle.ann_types.specs.Legal.{pid_end};
 ghost use Rattle.ann_prune.specs.Newer.{AreSettled};
 ghost use Rattle.ann_table.specs.Node.{new_node, node_at, rows_of, apart_rows, row_pid, linked};
-ghost use Rattle.ann_table.specs.Table.{ComesLast, AreNeighbours, AreNodes};
+ghost use Rattle.ann_types.specs.Rows.{AreNeighbours};
+ghost use Rattle.ann_table.specs.Table.{ComesLast, AreNodes};
 
 use crate::label::Label;
 use crate::links::Links;
@@ -214,7 +215,7 @@ impl Graph for Table {
 }
 
 impl Metric for Table {
-    ghost use Rattle.ann_table.specs.Near.{distance_itself, distance_symmetric};
+    ghost use Rattle.ann_types.proofs.Distances.{distance_itself, distance_symmetric};
 
     ghost apart = { λ t. apart_rows t.nodes };
 

@@ -1,5 +1,5 @@
 -- Distances of vectors in parts.
-use Rattle.std.proofs.Common.{◌≡◌, ℕ, ◌+◌, ◌*◌, ◌<◌, List, [], ◌∷◌, ◌++◌, length, sym, ap, ◌∙◌, arith, take, drop, add_assoc, get_or, add-one, length-take, add-zero}
+use Rattle.std.proofs.Common.{◌≡◌, ℕ, ◌+◌, ◌*◌, ◌<◌, List, [], ◌∷◌, ◌++◌, length, sym, ap, ◌∙◌, arith, take, drop, add_assoc, get_or, refl, add-one, length-take, add-zero}
 use Rattle.std.proofs.Math.Seq.{take-add, take-suc}
 use Rattle.std.proofs.lemmas.List.{take-append-drop}
 use Rattle.std.specs.Int.{abs_diff}
@@ -35,3 +35,20 @@ pub distance-take_drop : (i : ℕ) (xs ys : List ℕ) → length xs ≡ length y
 distance-take_drop i xs ys same =
     ap (λ t. distance t ys) (sym (take-append-drop i xs)) ∙ ap (λ t. distance (take i xs ++ drop i xs) t) (sym (take-append-drop i ys))
     ∙ distance-append (take i xs) (take i ys) (drop i xs) (drop i ys) (same_fronts i xs ys same)
+
+-- ---- a vector and itself, and two from either side
+
+pub distance_itself : (xs : List ℕ) → distance xs xs ≡ 0
+distance_itself [] = refl
+distance_itself (x ∷ xs) =
+    let none : abs_diff x x ≡ 0 = omega arith in
+    let rest : distance xs xs ≡ 0 = distance_itself xs in
+    ap (λ d. d * d + distance xs xs) none ∙ omega arith
+
+pub distance_symmetric : (xs ys : List ℕ) → distance xs ys ≡ distance ys xs
+distance_symmetric [] [] = refl
+distance_symmetric [] (y ∷ ys) = refl
+distance_symmetric (x ∷ xs) [] = refl
+distance_symmetric (x ∷ xs) (y ∷ ys) =
+    let same : abs_diff x y ≡ abs_diff y x = omega arith in
+    ap (λ d. d * d + distance xs ys) same ∙ ap (λ d. abs_diff y x * abs_diff y x + d) (distance_symmetric xs ys)

@@ -27,4 +27,5 @@ pub mod Judged
 pub mod Found
 pub mod Renamed
 pub mod Rowed
+pub mod Neighbours
 pub mod Coded

@@ -6,12 +6,9 @@ use Rattle.std.proofs.lemmas.List.{length-map}
 use Rattle.ann_types.specs.Distance.{distance}
 use Rattle.ann_types.specs.Order.{has}
 use Rattle.ann_types.specs.Graph.{Point, pids_of, vector_of, links_of, tag_of, far_from, apart_in, ground}
+use Rattle.ann_types.specs.Rows.{pid_at}
 use Rattle.ann_types.proofs.Sets.{Rises}
 use Rattle.ann_types.proofs.Renamed.{Below, IsRise, Renames}
-
--- the Pid of a row
-abbrev pub pid_at : List Point → ℕ → ℕ
-pid_at points r = get_or (pids_of points) r 0
 
 above_at : (n : ℕ) (xs : List ℕ) (r : ℕ) → AllByRecursion (λ x. n < x) xs → r < length xs → n < get_or xs r 0
 above_at n [] r a l = absurd (omega arith)

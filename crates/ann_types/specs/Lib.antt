@@ -8,6 +8,7 @@ pub mod Put
 pub mod Codes
 pub mod Rounds
 pub mod Index
+pub mod Rows
 pub mod Merge
 pub mod Lists
 pub mod Fold

@@ -15,7 +15,7 @@ use Rattle.ann_types.proofs.Sets.{all_append}
 use Rattle.ann_fault.specs.Counts.{next_count}
 use Rattle.ann_vault.specs.Reads.{more_reads}
 use Rattle.ann_segment.specs.Segment.{SegmentView}
-use Rattle.ann_beam.specs.Visits.{judged, row_block}
+use Rattle.ann_segment.specs.Rows.{judged, row_block}
 use Rattle.ann_beam.proofs.Readings.{reads_more}
 use Rattle.ann_view.specs.Collected.{AddsRows, Begins, Counts, Gathering, HasAdded, IsRowRefused, IsUncollected, alive_in, new_pids, pid_in, row_point_in, rows_below, undeleted}
 use Rattle.ann_view.specs.declared.collect_refused.CollectRefused.{CollectRefused}

@@ -14,7 +14,8 @@ use Rattle.ann_types.specs.Graph.{Point, pids_of, far_from, tag_of, ground, near
 use Rattle.ann_types.specs.Merge.{without}
 use Rattle.ann_types.specs.declared.params.Params.{Params}
 use Rattle.ann_types.proofs.Renamed.{Below, Renames, below_near, below_visited}
-use Rattle.ann_types.proofs.Rowed.{pid_at, tag_at, has_pid_at}
+use Rattle.ann_types.specs.Rows.{pid_at}
+use Rattle.ann_types.proofs.Rowed.{tag_at, has_pid_at}
 use Rattle.ann_greedy.specs.Rows.{Rows, far_row, ground_at, near_rows, visited_rows}
 use Rattle.ann_greedy.specs.Shows.{AreRows, seen}
 use Rattle.ann_table.specs.Node.{Node, nothing, node_at, row_pid, rows_of, first_row, point_of, graph_of}

@@ -11,7 +11,7 @@ use Rattle.ann_fault.specs.Counts.{next_count}
 use Rattle.ann_vault.specs.Reads.{more_reads}
 use Rattle.ann_segment.specs.Directory.{item_of}
 use Rattle.ann_segment.specs.Segment.{SegmentView, node_block}
-use Rattle.ann_beam.specs.Visits.{judged, node_in, row_block}
+use Rattle.ann_segment.specs.Rows.{judged, node_in, row_block}
 use Rattle.ann_view.specs.View.{IndexView, whole, pids_in}
 use Rattle.ann_view.specs.Holding.{HoldsGraph}
 use Rattle.ann_view.specs.declared.collect_refused.CollectRefused.{CollectRefused}

@@ -4,9 +4,9 @@ use Rattle.ann_types.specs.Kept.{rule_of, kept}
 use Rattle.ann_types.specs.declared.params.Params.{Params}
 use Rattle.ann_prune.specs.Newer.{AreSettled}
 use Rattle.ann_table.specs.Node.{node_at, apart_rows}
-use Rattle.ann_table.specs.Table.{AreNeighbours}
+use Rattle.ann_types.specs.Rows.{AreNeighbours}
 use Rattle.ann_table.proofs.Settled.{settled_push}
-use Rattle.ann_insert.proofs.Keeping.{kept_may}
+use Rattle.ann_types.proofs.Neighbours.{kept_may}
 use Rattle.ann_insert.proofs.Settling.{kept_settled}
 use Rattle.ann_insert.proofs.back.link_back.Goals as goal
 

@@ -4,8 +4,8 @@ use Rattle.ann_types.specs.Kept.{rule_of, kept}
 use Rattle.ann_types.specs.declared.params.Params.{Params}
 use Rattle.ann_prune.specs.Newer.{AreSettled}
 use Rattle.ann_table.specs.Node.{apart_rows}
-use Rattle.ann_table.specs.Table.{AreNeighbours}
-use Rattle.ann_insert.proofs.Keeping.{kept_may}
+use Rattle.ann_types.specs.Rows.{AreNeighbours}
+use Rattle.ann_types.proofs.Neighbours.{kept_may}
 use Rattle.ann_insert.proofs.Settling.{kept_settled}
 use Rattle.ann_insert.proofs.insert.link.Goals as goal
 
@@ -15,8 +15,8 @@ set_kept-requires-clause-neighbours c =
     let others : List ℕ = c.args.others.now in
     let is : c.deref.result.now ≡ kept (rule_of c.args.table.now.params) apart c.args.row others =
     c.deref.ensures.0 ∙ c.prune.ensures.kept
-    ∙ ap (λ (ps : Params). kept (rule_of ps) apart c.args.row c.gather.new.candidates.rows) c.params.ensures
-    ∙ ap (kept (rule_of c.args.table.now.params) apart c.args.row) (c.gather.ensures.rows ∙ ap (λ t. t ++ others) c.requires.empty) in
+    ∙ ap (λ (ps : Params). kept (rule_of ps) apart c.args.row c.add_all_within.new.candidates.rows) c.params.ensures
+    ∙ ap (kept (rule_of c.args.table.now.params) apart c.args.row) (c.add_all_within.ensures.rows ∙ ap (λ t. t ++ others) c.requires.empty) in
     let inside = c.requires.row in
     subst (AreNeighbours c.args.table.now.params (length c.args.table.now.nodes) c.args.row) (sym is)
     (kept_may c.args.table.now.params apart (length c.args.table.now.nodes) c.args.row others
@@ -29,7 +29,7 @@ set_kept-requires-clause-settled c =
     let others : List ℕ = c.args.others.now in
     let is : c.deref.result.now ≡ kept (rule_of c.args.table.now.params) apart c.args.row others =
     c.deref.ensures.0 ∙ c.prune.ensures.kept
-    ∙ ap (λ (ps : Params). kept (rule_of ps) apart c.args.row c.gather.new.candidates.rows) c.params.ensures
-    ∙ ap (kept (rule_of c.args.table.now.params) apart c.args.row) (c.gather.ensures.rows ∙ ap (λ t. t ++ others) c.requires.empty) in
+    ∙ ap (λ (ps : Params). kept (rule_of ps) apart c.args.row c.add_all_within.new.candidates.rows) c.params.ensures
+    ∙ ap (kept (rule_of c.args.table.now.params) apart c.args.row) (c.add_all_within.ensures.rows ∙ ap (λ t. t ++ others) c.requires.empty) in
     subst (AreSettled (rule_of c.args.table.now.params) apart c.args.row (length c.args.table.now.nodes)) (sym is)
     (kept_settled (rule_of c.args.table.now.params) apart c.args.row (length c.args.table.now.nodes) others)

@@ -4,7 +4,7 @@ use Rattle.ann_types.specs.declared.new_point.NewPoint.{NewPoint}
 use Rattle.ann_types.specs.declared.params.Params.{Params}
 use Rattle.ann_block.specs.Node.{NodeFields, node_of}
 use Rattle.ann_segment.specs.Segment.{SegmentView}
-use Rattle.ann_beam.specs.Visits.{judged, row_block}
+use Rattle.ann_segment.specs.Rows.{judged, row_block}
 use Rattle.ann_view.specs.Collected.{IsRowRefused, counts_of, pid_in, row_point_in}
 use Rattle.ann_view.specs.declared.collect_refused.CollectRefused.TheVariants.{Memory}
 use Rattle.ann_view.proofs.Collecting.{asked, pid_alive, pid_dead, row_alive, row_dead, uncollected_as}

@@ -7,7 +7,8 @@ use Rattle.ann_block.specs.Node.{NodeFields, node_of}
 use Rattle.ann_segment.specs.Segment.{SegmentView, node_block}
 use Rattle.ann_beam.specs.Ranking.{with_all}
 use Rattle.ann_beam.specs.Candidates.{far_row}
-use Rattle.ann_beam.specs.Visits.{alive, block_at, judged, point_of}
+use Rattle.ann_segment.specs.Rows.{block_at, judged}
+use Rattle.ann_beam.specs.Visits.{alive, point_of}
 use Rattle.ann_beam.specs.declared.refused.SearchRefused.TheVariants.{Disk}
 use Rattle.ann_beam.proofs.Readings.{gone_as}
 use Rattle.ann_beam.proofs.course.Course.visit.Goals as goal
