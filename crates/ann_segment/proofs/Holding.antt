@@ -14,7 +14,8 @@ use Rattle.ann_types.specs.declared.params.Params.{Params}
 use Rattle.ann_types.proofs.Ordered.{has_here, has_later}
 use Rattle.ann_types.proofs.Sets.{Rises, all_weaker, increasing_from_rises}
 use Rattle.ann_types.proofs.Renamed.{Below}
-use Rattle.ann_types.proofs.Rowed.{pid_at, pids_rise_at, pid_of_at, has_pid_at, row_of as row_with}
+use Rattle.ann_types.specs.Rows.{pid_at}
+use Rattle.ann_types.proofs.Rowed.{pids_rise_at, pid_of_at, has_pid_at, row_of as row_with}
 use Rattle.ann_types.proofs.Coded.{length_code}
 use Rattle.ann_types.proofs.Graphs.{AreLinked, IsLinked, linked_from_graph}
 use Rattle.ann_block.specs.Block.{zeros}

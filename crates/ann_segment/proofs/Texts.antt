@@ -9,7 +9,8 @@ use Rattle.ann_types.specs.Graph.{Point, Graph, pids_of}
 use Rattle.ann_types.specs.Codes.{Book, code}
 use Rattle.ann_types.specs.declared.params.Params.{Params}
 use Rattle.ann_types.proofs.Sets.{Rises}
-use Rattle.ann_types.proofs.Rowed.{pid_at as pid_in_row, pid_of_at, pids_rise_at}
+use Rattle.ann_types.specs.Rows.{pid_at as pid_in_row}
+use Rattle.ann_types.proofs.Rowed.{pid_of_at, pids_rise_at}
 use Rattle.ann_types.proofs.Graphs.{IsEntry, entry_from_graph, linked_from_graph}
 use Rattle.ann_block.specs.Block.{zeros}
 use Rattle.ann_block.specs.Header.{IsHeader, entry_field, header_bytes, header_of, judge_header}

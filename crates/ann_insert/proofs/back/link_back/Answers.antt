@@ -14,10 +14,10 @@ pub prune_newer-requires-clause-settled : goal.prune_newer-requires-clause-settl
 prune_newer-requires-clause-settled c =
     let apart : ℕ → ℕ → ℕ = apart_rows c.args.table.now.nodes in
     let links : List ℕ = (node_at c.args.table.now.nodes c.args.row).links in
-    let rows : c.add_within.new.candidates.rows ≡ links ++ c.args.new ∷ [] =
+    let rows : c.add_within.new.self.rows ≡ links ++ c.args.new ∷ [] =
     c.add_within.ensures.rows ∙ ap (λ t. t ++ c.args.new ∷ []) (c.gather_warm.ensures.rows ∙ ap (λ t. t ++ c.neighbours-2.result.now) c.requires.empty ∙ c.neighbours-2.ensures.links) in
-    subst (λ (ps : Params). AreSettled (rule_of ps) apart c.args.row c.newer.result c.add_within.new.candidates.rows) (sym c.params-2.ensures)
-    (subst (λ n. AreSettled (rule_of c.args.table.now.params) apart c.args.row n c.add_within.new.candidates.rows) (sym c.newer.ensures)
+    subst (λ (ps : Params). AreSettled (rule_of ps) apart c.args.row c.newer.result c.add_within.new.self.rows) (sym c.params-2.ensures)
+    (subst (λ n. AreSettled (rule_of c.args.table.now.params) apart c.args.row n c.add_within.new.self.rows) (sym c.newer.ensures)
     (subst (AreSettled (rule_of c.args.table.now.params) apart c.args.row (node_at c.args.table.now.nodes c.args.row).newer) (sym rows)
     (settled_push (rule_of c.args.table.now.params) apart c.args.row (node_at c.args.table.now.nodes c.args.row).newer links c.args.new c.requires.behind.newer (c.known.ensures.each c.args.row c.requires.row).settled)))
 
@@ -25,11 +25,11 @@ pub set_kept-requires-clause-neighbours : goal.set_kept-requires-clause-neighbou
 set_kept-requires-clause-neighbours c =
     let apart : ℕ → ℕ → ℕ = apart_rows c.args.table.now.nodes in
     let links : List ℕ = (node_at c.args.table.now.nodes c.args.row).links in
-    let rows : c.add_within.new.candidates.rows ≡ links ++ c.args.new ∷ [] =
+    let rows : c.add_within.new.self.rows ≡ links ++ c.args.new ∷ [] =
     c.add_within.ensures.rows ∙ ap (λ t. t ++ c.args.new ∷ []) (c.gather_warm.ensures.rows ∙ ap (λ t. t ++ c.neighbours-2.result.now) c.requires.empty ∙ c.neighbours-2.ensures.links) in
     let is : c.deref.result.now ≡ kept (rule_of c.args.table.now.params) apart c.args.row (links ++ c.args.new ∷ []) =
     c.deref.ensures.0 ∙ c.prune_newer.ensures.kept
-    ∙ ap (λ (ps : Params). kept (rule_of ps) apart c.args.row c.add_within.new.candidates.rows) c.params-2.ensures
+    ∙ ap (λ (ps : Params). kept (rule_of ps) apart c.args.row c.add_within.new.self.rows) c.params-2.ensures
     ∙ ap (kept (rule_of c.args.table.now.params) apart c.args.row) rows in
     let known = c.known.ensures.each c.args.row c.requires.row in
     subst (AreNeighbours c.args.table.now.params (length c.args.table.now.nodes) c.args.row) (sym is)
@@ -40,8 +40,8 @@ set_kept-requires-clause-neighbours c =
 pub set_kept-requires-clause-settled : goal.set_kept-requires-clause-settled
 set_kept-requires-clause-settled c =
     let apart : ℕ → ℕ → ℕ = apart_rows c.args.table.now.nodes in
-    let is : c.deref.result.now ≡ kept (rule_of c.args.table.now.params) apart c.args.row c.add_within.new.candidates.rows =
+    let is : c.deref.result.now ≡ kept (rule_of c.args.table.now.params) apart c.args.row c.add_within.new.self.rows =
     c.deref.ensures.0 ∙ c.prune_newer.ensures.kept
-    ∙ ap (λ (ps : Params). kept (rule_of ps) apart c.args.row c.add_within.new.candidates.rows) c.params-2.ensures in
+    ∙ ap (λ (ps : Params). kept (rule_of ps) apart c.args.row c.add_within.new.self.rows) c.params-2.ensures in
     subst (AreSettled (rule_of c.args.table.now.params) apart c.args.row (length c.args.table.now.nodes)) (sym is)
-    (kept_settled (rule_of c.args.table.now.params) apart c.args.row (length c.args.table.now.nodes) c.add_within.new.candidates.rows)
+    (kept_settled (rule_of c.args.table.now.params) apart c.args.row (length c.args.table.now.nodes) c.add_within.new.self.rows)

@@ -15,7 +15,7 @@ set_kept-requires-clause-neighbours c =
     let others : List ℕ = c.args.others.now in
     let is : c.deref.result.now ≡ kept (rule_of c.args.table.now.params) apart c.args.row others =
     c.deref.ensures.0 ∙ c.prune.ensures.kept
-    ∙ ap (λ (ps : Params). kept (rule_of ps) apart c.args.row c.add_all_within.new.candidates.rows) c.params.ensures
+    ∙ ap (λ (ps : Params). kept (rule_of ps) apart c.args.row c.add_all_within.new.self.rows) c.params.ensures
     ∙ ap (kept (rule_of c.args.table.now.params) apart c.args.row) (c.add_all_within.ensures.rows ∙ ap (λ t. t ++ others) c.requires.empty) in
     let inside = c.requires.row in
     subst (AreNeighbours c.args.table.now.params (length c.args.table.now.nodes) c.args.row) (sym is)
@@ -29,7 +29,7 @@ set_kept-requires-clause-settled c =
     let others : List ℕ = c.args.others.now in
     let is : c.deref.result.now ≡ kept (rule_of c.args.table.now.params) apart c.args.row others =
     c.deref.ensures.0 ∙ c.prune.ensures.kept
-    ∙ ap (λ (ps : Params). kept (rule_of ps) apart c.args.row c.add_all_within.new.candidates.rows) c.params.ensures
+    ∙ ap (λ (ps : Params). kept (rule_of ps) apart c.args.row c.add_all_within.new.self.rows) c.params.ensures
     ∙ ap (kept (rule_of c.args.table.now.params) apart c.args.row) (c.add_all_within.ensures.rows ∙ ap (λ t. t ++ others) c.requires.empty) in
     subst (AreSettled (rule_of c.args.table.now.params) apart c.args.row (length c.args.table.now.nodes)) (sym is)
     (kept_settled (rule_of c.args.table.now.params) apart c.args.row (length c.args.table.now.nodes) others)
