@@ -1,2 +1,4 @@
 pub mod Drawing
 pub mod Sorting
+pub mod Pairs
+pub mod Joining

@@ -52,14 +52,11 @@ number_of r = r.0
 abbrev pub piece_of : {P : Type 0} → ℕ × P → P
 piece_of r = r.1
 
--- it was told that nothing is left
+-- it was told that nothing is left, and has a result for each number that it drew, unless it was refused
 pub record IsEnded {P : Type 0} (lot : Lot) (d : Drawn P) : Type 0 where
   pub own : d.claimer.lot ≡ lot
   pub ended : d.claimer.ended ≡ true
-
--- it has the results of all that it drew, unless it was refused
-abbrev pub HasResults : {P : Type 0} → (ℕ → P → Type 0) → ℕ → Drawn P → Type 0
-HasResults is_piece first d = d.refusal ≡ None → AreResults is_piece first d.claimer.drawn d.results.items
+  pub numbers : d.refusal ≡ None → map number_of d.results.items ≡ d.claimer.drawn
 
 -- on its way: it has the results of what it drew so far, unless it was refused
 pub record IsDrawing {W P : Type 0} (goes : W → W → Type 0) (causes : W → W → WorkRefused → Type 0) (is_piece : ℕ → P → Type 0) (first : ℕ) (lot : Lot) (old new : Member W P) : Type 0 where

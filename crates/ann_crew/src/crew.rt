@@ -11,9 +11,8 @@ use crate::task::{Stretch, Task};
 use ann_claim::{Claimer, Claims};
 use ann_mdelete::WorkRefused;
 use std::alloc::{AllocError, Global};
-use std::mem;
-use std::thread;
 use std::thread::Threads;
+use std::{mem, thread};
 
 /// Gives each worker a claimer, within the room that there is. The members stand in the other order.
 fn fill<W: Drop, P: Drop>(
@@ -65,13 +64,13 @@ fn enlist<W: Drop, P: Drop>(
 }
 
 /// Lets each member draw, in a thread of its own.
-fn draw_side_by_side<R: Threads + Sync, G: Gate, T: Task>(
+fn draw_side_by_side<R: Threads + Sync, W: Send + Drop, G: Gate + Sync, T: Task<W> + Sync>(
     rt: &R,
     gate: &G,
     task: &T,
     stretch: Stretch,
     claims: &Claims,
-    members: &mut [Member<T::Worker, T::Piece>],
+    members: &mut [Member<W, T::Piece>],
 )
     requires some { 0 < length members.old }
     requires within { stretch.first + claims.now.numbers ≤ T.count task.now }
@@ -86,7 +85,7 @@ fn draw_side_by_side<R: Threads + Sync, G: Gate, T: Task>(
         rt,
         members,
         threads,
-        &move |_place: usize, member: &mut Member<T::Worker, T::Piece>|
+        &move |_place: usize, member: &mut Member<W, T::Piece>|
             requires within { stretch.first + claims.now.numbers ≤ T.count task.now }
             requires small { stretch.first + claims.now.numbers ≤ 4294967296 }
             requires fresh { IsFresh claims.now member.now }
@@ -180,13 +179,13 @@ fn settle<P: Drop>(
 /// # Errors
 ///
 /// The refusal of one of the workers, or want of memory.
-pub fn run<R: Threads + Sync, G: Gate, T: Task>(
+pub fn run<R: Threads + Sync, W: Send + Drop, G: Gate + Sync, T: Task<W> + Sync>(
     rt: &R,
     alloc: Global,
     gate: &G,
     task: &T,
     stretch: Stretch,
-    workers: &mut Vec<T::Worker>,
+    workers: &mut Vec<W>,
 ) -> Result<Vec<T::Piece>, WorkRefused>
     requires some { 0 < length workers.old.items }
     requires few { length workers.old.items ≤ 16 }

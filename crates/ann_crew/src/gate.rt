@@ -11,7 +11,7 @@ pub enum Spot {
 
 /// Is told of each spot as it is passed, and may hold a thread there. A program's gate does nothing; a test's shows that
 /// threads run side by side.
-pub trait Gate: Sync {
+pub trait Gate {
     /// Goes through.
     fn pass(&self, spot: Spot);
 }

@@ -16,12 +16,12 @@ pub(crate) struct Member<W, P> {
 }
 
 /// Does a piece, behind the gate, and keeps what it gives, or why it is refused.
-fn do_piece<G: Gate, T: Task>(
+fn do_piece<W, G: Gate, T: Task<W>>(
     gate: &G,
     task: &T,
     stretch: Stretch,
     number: u32,
-    member: &mut Member<T::Worker, T::Piece>,
+    member: &mut Member<W, T::Piece>,
 )
     requires within { stretch.first + number < T.count task.now }
     requires small { stretch.first + number < 4294967296 }
@@ -47,12 +47,12 @@ fn do_piece<G: Gate, T: Task>(
 }
 
 /// Draws pieces until none is left. A worker that is refused draws on without work, so that the drawing ends.
-pub(crate) fn draw_all<G: Gate, T: Task>(
+pub(crate) fn draw_all<W, G: Gate, T: Task<W>>(
     gate: &G,
     task: &T,
     stretch: Stretch,
     claims: &Claims,
-    member: &mut Member<T::Worker, T::Piece>,
+    member: &mut Member<W, T::Piece>,
 )
     requires within { stretch.first + claims.now.numbers ≤ T.count task.now }
     requires small { stretch.first + claims.now.numbers ≤ 4294967296 }

@@ -1,4 +1,4 @@
-use Rattle.std.proofs.Common.{◌≡◌, ◌+◌, ◌<◌, ap, sym, ◌∙◌, arith, refl}
+use Rattle.std.proofs.Common.{◌≡◌, ◌+◌, ◌<◌, ◌≤◌, ap, sym, ◌∙◌, arith, refl}
 use Rattle.ann_claim.specs.Claims.{Drawer, least_above}
 use Rattle.ann_crew.proofs.Drawing.{above_push, drawing_more}
 use Rattle.ann_crew.proofs.member.draw_all.Goals as goal
@@ -8,6 +8,7 @@ loop-number-smaller g c =
     let drawn = c.in-Some.ensures.drawn in
     let now : least_above c.do_piece.new.member.claimer.drawn ≡ c.in-Some.number + 1 = ap (λ (d : Drawer). least_above d.drawn) (c.do_piece.ensures.claimer ∙ drawn) ∙ above_push c.loop-number.member.claimer.drawn c.in-Some.number c.in-Some.ensures.rises in
     let below : c.in-Some.number < c.args.claims.now.numbers = c.in-Some.ensures.below in
+    let rises : least_above c.loop-number.member.claimer.drawn ≤ c.in-Some.number = c.in-Some.ensures.rises in
     omega arith
 
 pub loop-number-preserved : goal.loop-number-preserved
