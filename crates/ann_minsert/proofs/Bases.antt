@@ -86,8 +86,8 @@ module _ (index : Index) where
   found_each : (new : List NewPoint) → Rises (new_pids new) → AllByRecursion (λ y. new_vector new y.pid ≡ y.vector) new
   found_each [] r = tt
   found_each (x ∷ new) (a, r) = (
-      ap (λ t. cond t x.vector (new_vector new x.pid)) (eq-eqb x.pid x.pid refl),
-      all_two (λ y. x.pid < y.pid) (λ y. new_vector new y.pid ≡ y.vector) (λ y. new_vector (x ∷ new) y.pid ≡ y.vector) new (found_later x new) (all_of_map (λ p. x.pid < p) (λ (y : NewPoint). y.pid) new a) (found_each new r),
+    ap (λ t. cond t x.vector (new_vector new x.pid)) (eq-eqb x.pid x.pid refl),
+    all_two (λ y. x.pid < y.pid) (λ y. new_vector new y.pid ≡ y.vector) (λ y. new_vector (x ∷ new) y.pid ≡ y.vector) new (found_later x new) (all_of_map (λ p. x.pid < p) (λ (y : NewPoint). y.pid) new a) (found_each new r),
   )
 
   -- Decoded once more they are the vectors with which the points were put.

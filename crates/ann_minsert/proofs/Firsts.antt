@@ -80,14 +80,14 @@ module _ (points : List Point) (vectors : List (List ℕ)) (are : AreRowsOf poin
       elim (cases_eq at.0 row) [
         | inl e ↦ inl (sym at.2 ∙ ap (pid_at points) e)
         | inr other ↦ inr (subst (λ (p : ℕ). before (far_from points query) (pid_at points row) p ≡ true) at.2
-          (before_from (far_from points query) (pid_at points row) (pid_at points at.0)
-          (elim (cases_lt at.0 row) [
-            | inl low ↦ inl (let less = is.first at.0 low in omega arith)
-            | inr high ↦ elim (cases_lt (far_of vectors query row) (far_of vectors query at.0)) [
-              | inl less ↦ inl (omega arith)
-              | inr same ↦ inr (let most = is.least at.0 (omega arith) in (omega arith, pids_rise_at points rises row at.0 (omega arith) there))
-            ]
-          ])))
+            (before_from (far_from points query) (pid_at points row) (pid_at points at.0)
+            (elim (cases_lt at.0 row) [
+              | inl low ↦ inl (let less = is.first at.0 low in omega arith)
+              | inr high ↦ elim (cases_lt (far_of vectors query row) (far_of vectors query at.0)) [
+                | inl less ↦ inl (omega arith)
+                | inr same ↦ inr (let most = is.least at.0 (omega arith) in (omega arith, pids_rise_at points rises row at.0 (omega arith) there))
+              ]
+            ])))
       ]
 
   -- The first row that is nearest to the mean is the entry.

@@ -2,6 +2,7 @@
 use Rattle.std.specs.Prelude.{◌≡◌, ◌<◌, ℕ, List, [], ◌∷◌, ◌++◌, length, map, All}
 use Rattle.ann_types.specs.Codes.{Book, decoded, decoded_graph}
 use Rattle.ann_types.specs.Graph.{Graph, pids_of}
+use Rattle.ann_types.specs.Index.{Index}
 use Rattle.ann_types.specs.Kept.{rule_of, kept}
 use Rattle.ann_types.specs.Merge.{linked}
 use Rattle.ann_types.specs.Rows.{pid_at, AreNeighbours}
@@ -26,9 +27,15 @@ linked_rows params book b x =
 abbrev pub IsBehind : Graph → NewPoint → Type 0
 IsBehind g x = All (λ p. p < x.pid) (pids_of g.points)
 
--- these rows are the neighbours that the Insert phase gives a new point: what it keeps; so, for whichever graph the base
--- stands for, those of the definition; and rows of the base in ascending order, at most R
+-- these rows are the neighbours that the definition of the Insert phase gives a new point, in whichever graph the base
+-- stands for
+abbrev pub AreDefined : Index → BaseView → NewPoint → List ℕ → Type 0
+AreDefined index b x rows =
+    (g : Graph) → StandsFor (decoded_graph index.book g) b → IsBehind g x → map (pid_at g.points) rows ≡ (linked index g x).links
+
+-- these rows are those that a new point keeps, and so its neighbours by the definition; they are rows of the base in
+-- ascending order, at most R
 pub record AreLinked (params : Params) (book : Book) (b : BaseView) (x : NewPoint) (rows : List ℕ) : Type 0 where
   pub kept : rows ≡ linked_rows params book b x
-  pub defined : (g : Graph) → StandsFor (decoded_graph book g) b → IsBehind g x → map (pid_at g.points) rows ≡ (linked (record { params = params; book = book }) g x).links
+  pub defined : AreDefined (record { params = params; book = book }) b x rows
   pub may : AreNeighbours params (length b.vectors) (length b.vectors) rows

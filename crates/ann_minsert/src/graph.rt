@@ -92,7 +92,6 @@ impl Graph for Base {
 
     #[inline]
     fn vector(&self, row: u32) -> &[u8] {
-        self.decoded.known();
         self.decoded.vector(row)
     }
 

@@ -108,6 +108,7 @@ pub fn link(
 {
     base.known();
     let vector = point.vector.bytes();
+    decode_own(book, vector, &mut scratch.code, &mut scratch.own)?;
     visit(
         base,
         vector,
@@ -116,7 +117,6 @@ pub fn link(
         &mut scratch.visited,
     )?;
     gather_warm(base.decoded(), &mut scratch.candidates, &scratch.visited)?;
-    decode_own(book, vector, &mut scratch.code, &mut scratch.own)?;
     keep(
         base.decoded(),
         &scratch.own,
