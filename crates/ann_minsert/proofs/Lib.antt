@@ -1,0 +1,5 @@
+pub mod Firsts
+pub mod Linked
+pub mod Pieces
+pub mod TableRows
+pub mod Bases
