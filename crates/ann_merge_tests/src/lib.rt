@@ -1,7 +1,13 @@
-//! Tests of the merge, phase by phase: the workers, the loading of pieces, and the Delete, Insert and Patch phases.
+//! Tests of the merge, phase by phase: the workers, and the Delete, Insert and Patch phases.
 //!
 //! They stand in a crate of their own, since a check of a crate's tests proves the whole crate once more.
 #![tactic(auto)]
 
 #[cfg(test)]
 mod crew;
+#[cfg(test)]
+mod insert;
+#[cfg(test)]
+mod repair;
+#[cfg(test)]
+mod rows;
