@@ -1,0 +1,4 @@
+pub mod Joins
+pub mod Listed
+pub mod Courses
+pub mod Merged

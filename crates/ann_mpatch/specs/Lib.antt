@@ -1,0 +1,5 @@
+pub mod Joined
+pub mod Source
+pub mod Plan
+pub mod Patched
+pub mod Phase
