@@ -77,7 +77,8 @@ impl<'a> Phase<'a> {
         list: &[u32],
     ) -> Result<(), AllocError>
         requires list { All (λ row. row < length self.now.gone.now) list.now }
-        requires rows { AreRows self.now.params.now self.now.lists.now self.now.decoded.now self.now.gone.now }
+        requires rows { AreRows self.now.params.now
+            self.now.lists.now self.now.decoded.now self.now.gone.now }
         ensures { let gone = self.now.gone.now in
             let added = without (p ∷ gone_rows gone) (behind self.now.lists.now gone list.now) in
             OnOk result (candidates.new.rows ≡ candidates.old.rows ++ added) }
@@ -97,7 +98,8 @@ impl<'a> Phase<'a> {
         scratch: &mut Candidates,
         out: &mut ArrayVec<u32, 128>,
     ) -> Result<(), AllocError>
-        requires rows { AreRows self.now.params.now self.now.lists.now self.now.decoded.now self.now.gone.now }
+        requires rows { AreRows self.now.params.now
+            self.now.lists.now self.now.decoded.now self.now.gone.now }
         requires row { p < length self.now.lists.now }
         ensures { OnOk result (out.new.items ≡ repaired_row (rule_of self.now.params.now)
             self.now.lists.now self.now.decoded.now self.now.gone.now p) }
