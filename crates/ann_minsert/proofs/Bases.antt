@@ -1,6 +1,7 @@
 -- The base of the definition, by decoded vectors: the graph that the first new points make by inserts where no point
 -- survives, and else the survivors.
 use Rattle.std.proofs.Common.{◌≡◌, ℕ, ◌≤◌, ◌<◌, Bool, true, false, cond, eqb, List, [], ◌∷◌, ◌++◌, refl, sym, ap, subst, ◌∙◌, arith, map, fold, take, length, get_or, append_assoc, append-nil, eq-eqb}
+use Rattle.std.specs.Prelude.{Option, option_map}
 use Rattle.std.specs.List.{All, AllByRecursion}
 use Rattle.std.specs.List.Sorted.{IsStrictlyIncreasing}
 use Rattle.std.proofs.lemmas.Bool.{ne_eqb}
@@ -10,7 +11,7 @@ use Rattle.ann_types.specs.Codes.{Book, decoded, decoded_points, decoded_graph}
 use Rattle.ann_types.specs.Graph.{Point, Graph, with_vector, empty_graph, pids_of, apart_in, visited}
 use Rattle.ann_types.specs.Index.{Index}
 use Rattle.ann_types.specs.Kept.{Rule, rule_of, kept}
-use Rattle.ann_types.specs.Merge.{central, base_size, put_decoded, new_vector, first_base, base_points, base_of}
+use Rattle.ann_types.specs.Merge.{central, base_size, put_decoded, new_vector, first_base, base_points, base_of, mean_entry}
 use Rattle.ann_types.specs.Put.{alone, linked_back, put}
 use Rattle.ann_types.specs.Rows.{pid_at}
 use Rattle.ann_types.specs.declared.params.Params.{Params}
@@ -113,6 +114,12 @@ module _ (index : Index) where
   base_made new l r =
       ap (λ (ps : List Point). let g : Graph = record { entry = central index.params.d ps; points = ps } in g)
       (sym (ap (λ (xs : List NewPoint). decoded_points index.book (first_base index xs)) (take_all base_size new l) ∙ first_decoded new r))
+
+  -- ---- the entry
+
+  -- The row that is nearest to the mean of all is that of MeanEntry.
+  pub entry_is : (points : List Point) (vectors : List (List ℕ)) (row : Option ℕ) → AreRowsOf (decoded_points index.book points) vectors → IsCentral index.params.d vectors row → mean_entry index points ≡ option_map (pid_at points) row
+  entry_is points vectors row are is = is (decoded_points index.book points) are ∙ ap (λ (ps : List ℕ). option_map (λ r. get_or ps r 0) row) (pids_decoded index points)
 
   -- ---- the survivors
 

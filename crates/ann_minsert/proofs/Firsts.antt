@@ -26,9 +26,6 @@ zeros_at zero i = refl
 zeros_at (suc n) zero = refl
 zeros_at (suc n) (suc i) = zeros_at n i
 
-pub sum_more : (vectors : List (List ℕ)) (row i : ℕ) → row < length vectors → sum_at (take (row + 1) vectors) i ≡ sum_at (take row vectors) i + get_or (get_or vectors row []) i 0
-sum_more vectors row i l = ap (λ xs. sum_at xs i) (take_more vectors row [] l) ∙ sum_by_push (λ x. get_or x i 0) (take row vectors) (get_or vectors row [])
-
 pub mean_is : (vectors : List (List ℕ)) (d : ℕ) (middle : List ℕ) → length middle ≡ d → ((i : ℕ) → i < d → get_or middle i 0 ≡ sum_at vectors i / length vectors) → middle ≡ mean d vectors
 mean_is vectors d middle long each = fill_by_all (λ i. sum_at vectors i / length vectors) middle d 0 long each
 
@@ -96,11 +93,6 @@ module _ (points : List Point) (vectors : List (List ℕ)) (are : AreRowsOf poin
       let count = count_is in
       ap (λ m. slice_get (top (far_from points m) 1 (pids_of points)) 0) (ap (mean d) are.same ∙ sym are_mean)
       ∙ top_one (far_from points middle) (pid_at points row) (pids_of points) (has_pid_at points row (let i = is.inside in omega arith)) (least_before middle row is)
-
--- Without rows there is none.
-pub central_none : (d : ℕ) (points : List Point) (vectors : List (List ℕ)) → length vectors ≡ 0 → AreRowsOf points vectors → central d points ≡ None
-central_none d [] vectors e are = refl
-central_none d (x ∷ points) vectors e are = absurd (let count = count_is (x ∷ points) vectors are in omega arith)
 
 -- The width that the vectors have is the number of their components, where there are any.
 pub central_wide : (d : ℕ) (vectors : List (List ℕ)) (row : Option ℕ) → All (λ vector. length vector ≡ d) vectors → IsCentral (width_of vectors) vectors row → IsCentral d vectors row

@@ -65,14 +65,6 @@ module _ (b : BaseView) (sound : IsBase b) where
   pub seen_below : (params : Params) (query : List ℕ) → Below (length b.vectors) (seen_rows params b query)
   seen_below params query = below_from query params.l_build b.entry sound.entered
 
-  -- Without rows no row is seen.
-  none_from : (query : List ℕ) (width : ℕ) (e : Option ℕ) → length b.vectors ≡ 0 → MatchOption e (b.vectors ≡ []) (λ row. row < length b.vectors) → [] ≡ visited_rows (rows_of b) query width e
-  none_from query width None n m = refl
-  none_from query width (Some entry) n m = absurd (omega arith)
-
-  pub none_seen : (params : Params) (query : List ℕ) → length b.vectors ≡ 0 → [] ≡ seen_rows params b query
-  none_seen params query n = none_from query params.l_build b.entry n sound.entered
-
 -- ---- a walk of a base is that of a graph
 
 module _ (known : Graph) (b : BaseView) (stands : StandsFor known b) (sound : IsBase b) where
