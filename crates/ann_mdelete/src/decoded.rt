@@ -70,6 +70,7 @@ impl Decoded {
         requires same { All (λ vector. length vector ≡ book.now.d) self.old }
         requires few { length self.old < 2 ^ 32 - 1 }
         ensures added { OnOk result (self.new ≡ self.old ++ decode book.now.book code.now ∷ []) }
+        ensures same { OnOk result (All (λ vector. length vector ≡ book.now.d) self.new) }
         ensures kept { OnErr result (self.new ≡ self.old) }
     {
         book.known();
@@ -85,6 +86,7 @@ impl Decoded {
         requires short { length vector.now ≤ 1024 }
         requires few { length self.old < 2 ^ 32 - 1 }
         ensures added { OnOk result (self.new ≡ self.old ++ vector.now ∷ []) }
+        ensures same { OnOk result (All (λ earlier. length earlier ≡ length vector.now) self.new) }
         ensures kept { OnErr result (self.new ≡ self.old) }
     {
         self.bytes.extend_from_slice(vector)?;

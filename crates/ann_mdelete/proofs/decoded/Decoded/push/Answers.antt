@@ -1,4 +1,5 @@
 use Rattle.std.proofs.Common.{◌≡◌, ◌+◌, ◌*◌, ap, sym, ◌∙◌, arith, length}
+use Rattle.std.proofs.lemmas.List.Elements.{All-push, All-same}
 use Rattle.ann_types.specs.Codes.{decode}
 use Rattle.ann_mdelete.specs.Decoded.{vectors_in}
 use Rattle.ann_mdelete.proofs.Vectors.{count_vectors, added_vector, added_size}
@@ -28,3 +29,8 @@ returns-clause-added c =
     let whole : length c.self.inside.bytes.items ≡ n * c.self.inside.width = sym c.self.inside.bytes.ok.0 ∙ c.self.invariant.0 in
     ap (λ k. vectors_in k (n + 1) c.add_decoded.new.bytes.items) c.d-self-inside.ensures
     ∙ added_vector c.self.inside.width n c.self.inside.bytes.items (decode c.args.book.now.book c.args.code.now) c.add_decoded.new.bytes.items c.args.self.now c.args.book.now.d c.self.view_is whole c.requires.same c.in_ok-add_decoded.ensures.width c.in_ok-add_decoded.ensures.added
+
+pub returns-clause-same : goal.returns-clause-same
+returns-clause-same c =
+    All-same (λ vector. length vector ≡ c.args.book.now.d) _ _ (returns-clause-added c)
+    (All-push (λ vector. length vector ≡ c.args.book.now.d) c.args.self.now (decode c.args.book.now.book c.args.code.now) c.requires.same c.in_ok-add_decoded.ensures.width)
