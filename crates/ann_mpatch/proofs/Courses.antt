@@ -1,15 +1,14 @@
 -- Merged rows are added one after the other.
-use Rattle.std.proofs.Common.{◌≡◌, ℕ, zero, suc, ◌+◌, ◌-◌, ◌*◌, ◌≤◌, ◌<◌, List, [], ◌∷◌, ◌++◌, refl, sym, ap, subst, ◌∙◌, arith, length, get_or, take, drop, inl, inr, append_assoc, append-nil}
-use Rattle.std.specs.Prelude.{All, IfErr, OnOk, Result, Ok, Err}
+use Rattle.std.proofs.Common.{◌≡◌, ℕ, zero, suc, ◌+◌, ◌-◌, ◌≤◌, ◌<◌, List, [], ◌∷◌, ◌++◌, refl, sym, ap, subst, ◌∙◌, arith, length, get_or, take, drop, inl, inr, append_assoc, append-nil}
+use Rattle.std.specs.Prelude.{IfErr, OnOk, Result, Ok, Err}
 use Rattle.std.proofs.lemmas.Result.{IfErr-weaker, on_ok_weaker}
 use Rattle.std.specs.List.{AllByRecursion, concat}
 use Rattle.std.specs.Result.{IsErrAnd}
 use Rattle.std.proofs.Math.Seq.{take-add}
 use Rattle.std.proofs.lemmas.Bool.{cases_lt}
-use Rattle.std.proofs.lemmas.List.{drop-drop, drop_all, drop_more, get_or_append_left, get_or-append_right, get_or-drop, get_or-take, length-append, length-drop, length-take, length_push}
+use Rattle.std.proofs.lemmas.List.{drop-drop, drop_all, drop_more, get_or_append_left, get_or-append_right, get_or-drop, get_or-take, length-append, length-drop, length-take}
 use Rattle.std.proofs.lemmas.List.Elements.{All-from_get_or, recursion_from_All}
 use Rattle.std.proofs.lemmas.List.Folds.{concat-append}
-use Rattle.ann_types.specs.declared.params.Params.{Params}
 use Rattle.ann_types.proofs.Sets.{all_append}
 use Rattle.ann_fault.specs.Counts.{next_count}
 use Rattle.ann_vault.specs.Reads.{more_reads}
@@ -17,7 +16,7 @@ use Rattle.ann_mdelete.specs.declared.refused.WorkRefused.{WorkRefused}
 use Rattle.ann_mdelete.specs.declared.refused.WorkRefused.TheVariants.{Disk, BadSegment, Memory}
 use Rattle.ann_mpatch.specs.Source.{Source, IsSound, IsBlock}
 use Rattle.ann_mpatch.specs.Plan.{merged_list, new_at, source_for, survivor_at, survivors_in}
-use Rattle.ann_mpatch.specs.Patched.{Standing, IsBlockOf, IsOldBlock, HasPatched, HasFailed, HasBadBlock, HasStopped, HasAdded, IsRefusedFor, IsPatched, block_of}
+use Rattle.ann_mpatch.specs.Patched.{Standing, IsBlockOf, IsOldBlock, HasPatched, HasAdded, IsRefusedFor, IsPatched, block_of}
 use Rattle.ann_mpatch.specs.declared.plan.PatchPlan.{PatchPlan}
 
 -- ---- counts

@@ -3,10 +3,10 @@ use Rattle.std.proofs.Common.{◌≡◌, ℕ, ◌+◌, ◌≤◌, ◌<◌, true,
 use Rattle.std.specs.Prelude.{All}
 use Rattle.std.specs.List.{AllByRecursion, IsDistinct}
 use Rattle.std.specs.List.Sorted.{IsPermutation, IsStrictlyIncreasing}
-use Rattle.std.proofs.lemmas.Bool.{both_ways, ne_eqb, or_from, or_parts, or_left, cond-true, cond-false}
+use Rattle.std.proofs.lemmas.Bool.{ne_eqb, or_from, or_parts, cond-true, cond-false}
 use Rattle.std.proofs.lemmas.List.Elements.{recursion_from_All, All-from_recursion}
 use Rattle.std.proofs.lemmas.List.{length-append}
-use Rattle.ann_types.specs.Order.{before, has, placed, all_placed, in_order, ascending}
+use Rattle.ann_types.specs.Order.{before, has, placed, all_placed, ascending}
 use Rattle.ann_types.specs.Kept.{Rule, keep, kept, within}
 use Rattle.ann_types.proofs.Booleans.{eqb_sym}
 use Rattle.ann_types.proofs.Ordered.{has_placed, in_order_same}

@@ -1,10 +1,9 @@
 -- The lists of merged rows.
-use Rattle.std.proofs.Common.{◌≡◌, ℕ, ◌+◌, ◌-◌, ◌≤◌, ◌<◌, List, [], ◌++◌, sym, ap, subst, ◌∙◌, arith, length, map, get_or, inl, inr}
-use Rattle.std.specs.Prelude.{All}
+use Rattle.std.proofs.Common.{◌≡◌, ℕ, ◌-◌, ◌≤◌, ◌<◌, List, [], ◌++◌, sym, subst, ◌∙◌, arith, length, map, get_or, inl, inr}
 use Rattle.std.specs.List.{range_with_len}
 use Rattle.std.specs.List.Sorted.{IsStrictlyIncreasing}
 use Rattle.std.proofs.lemmas.Bool.{cases_lt}
-use Rattle.std.proofs.lemmas.List.{get_or_append_left, get_or-append_right, length-append}
+use Rattle.std.proofs.lemmas.List.{get_or_append_left, get_or-append_right}
 use Rattle.std.proofs.lemmas.List.Elements.{All-get_or, All-append, All-weaker}
 use Rattle.std.proofs.lemmas.List.FromFn.{get_or-map-range_with_len, length-map-range_with_len}
 use Rattle.ann_types.specs.Order.{ascending}
@@ -14,7 +13,7 @@ use Rattle.ann_types.proofs.Keeps.{within_few, within_rises}
 use Rattle.ann_prune.specs.Gathered.{AreRows}
 use Rattle.ann_mdelete.specs.Decoded.{apart_of}
 use Rattle.ann_mpatch.specs.Joined.{ShareNothing}
-use Rattle.ann_mpatch.specs.Plan.{AreRowsFrom, IsPlan, merged_list, merged_lists, patched_list}
+use Rattle.ann_mpatch.specs.Plan.{AreRowsFrom, IsPlan, merged_list, patched_list}
 use Rattle.ann_mpatch.specs.declared.plan.PatchPlan.{PatchPlan}
 use Rattle.ann_mpatch.proofs.Joins.{share_nothing}
 

@@ -1,6 +1,6 @@
 -- The blocks of a piece are those that the text of the merged graph has at its rows.
-use Rattle.std.proofs.Common.{◌≡◌, ℕ, ◌+◌, ◌-◌, ◌≤◌, ◌<◌, min, List, [], ◌∷◌, ◌++◌, refl, sym, ap, ap₂, subst, ◌∙◌, arith, length, map, flat_map, get_or, take, drop, inl, inr}
-use Rattle.std.specs.Prelude.{All, Option, None, Some}
+use Rattle.std.proofs.Common.{◌≡◌, ℕ, ◌+◌, ◌-◌, ◌≤◌, ◌<◌, List, [], ◌∷◌, ◌++◌, refl, sym, ap, ap₂, subst, ◌∙◌, arith, length, map, flat_map, get_or, take, drop, inl, inr}
+use Rattle.std.specs.Prelude.{Option, None, Some}
 use Rattle.std.specs.List.{AllByRecursion, concat}
 use Rattle.std.proofs.lemmas.Bool.{cases_lt}
 use Rattle.std.proofs.lemmas.List.{get_or-map, get_or_append_left, get_or-append_right, get_or-drop, get_or-take, get_or_default, length-append, length-drop, length-map, length-take, map-append, same_lists}
@@ -27,10 +27,10 @@ use Rattle.ann_segment.specs.Segment.{SegmentView}
 use Rattle.ann_segment.specs.Text.{node_for, row_of}
 use Rattle.ann_segment.proofs.Holding.{holds_row, row_is}
 use Rattle.ann_mdelete.specs.Decoded.{apart_of}
-use Rattle.ann_mpatch.specs.Source.{IsRead, point_in, source_of}
+use Rattle.ann_mpatch.specs.Source.{point_in, source_of}
 use Rattle.ann_mpatch.specs.Plan.{IsPlan, merged_list, new_at, patched_list, piece_size, row_count, segment_in, source_for, survivor_at}
 use Rattle.ann_mpatch.specs.Patched.{HasPatched, IsBlockOf, Standing, block_of}
-use Rattle.ann_mpatch.specs.Phase.{AreMerged, HoldsOld, IsPlanOf, named, point_at}
+use Rattle.ann_mpatch.specs.Phase.{AreMerged, HoldsOld, IsPlanOf, point_at}
 use Rattle.ann_mpatch.specs.declared.plan.PatchPlan.{PatchPlan}
 use Rattle.ann_mpatch.proofs.Listed.{joined_rows, later_rows, list_later, list_patched}
 

@@ -86,9 +86,9 @@ IsRefusedFor tells source params rows old new Disk = HasFailed tells source para
 IsRefusedFor tells source params rows old new (BadSegment block) = HasBadBlock tells source params rows block old new
 IsRefusedFor tells source params rows old new Memory = HasStopped tells source params rows old new
 
--- ---- how it ends
+-- ---- how calls end
 
--- with the row of a segment, of which a page was read once
+-- the block of the point in a row of the segment was added with this list, and the row was read once
 pub record HasAdded (tells : Type 0) (source : Source) (params : Params) (row : ℕ) (list : List ℕ) (old new : Standing) : Type 0 where
   pub block : List ℕ
   pub is : IsOldBlock tells source params row list block
@@ -97,7 +97,7 @@ pub record HasAdded (tells : Type 0) (source : Source) (params : Params) (row : 
   pub reads : new.reads ≡ next_count old.reads
   pub calm : new.faults ≡ old.faults
 
--- with so many merged rows from one on
+-- how the making of so many merged rows' blocks ends, from one on
 pub record IsPatched {S T : Type 0} (tells : Type 0) (bytes : S → List ℕ) (plan : PatchPlan S) (first size : ℕ) (old new : Standing) (result : Result T WorkRefused) : Type 0 where
   pub patched : OnOk result (HasPatched tells bytes plan first size old new)
   pub refused : IfErr result (IsRefusedFor tells (source_for bytes plan) plan.params (survivors_in plan first size) old new)

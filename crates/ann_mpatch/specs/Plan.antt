@@ -69,11 +69,11 @@ pub record AreRowsFrom (low high : ℕ) (list : List ℕ) : Type 0 where
 pub record IsPlan {S : Type 0} (plan : PatchPlan S) : Type 0 where
   -- the survivors are rows of the segment, so without one there are none
   pub survivors : All (λ row. row < row_count (segment_in plan)) plan.survivors.items
-  -- each merged row has its vector, and its list, to which new neighbours stand where it is of the base
+  -- each merged row has its vector and its list, and each row of the base its new neighbours
   pub decoded : length plan.decoded ≡ length plan.survivors.items + length plan.points.items
   pub rows : length plan.base + length plan.links ≡ length plan.decoded
   pub pairs : length plan.delta ≡ length plan.base
-  -- the base is linked to itself, its new neighbours are later rows, and later rows are linked to the base
+  -- rows of the base and later ones are linked to the base, and the new neighbours are later rows
   pub base : All (AreRowsFrom 0 (length plan.base)) plan.base
   pub delta : All (AreRowsFrom (length plan.base) (length plan.decoded)) plan.delta
   pub links : All (AreRowsFrom 0 (length plan.base)) plan.links

@@ -1,5 +1,4 @@
-use Rattle.std.proofs.Common.{◌<◌, ◌++◌, ◌+◌, length, ap, sym, subst, ◌∙◌, arith}
-use Rattle.std.proofs.lemmas.List.Elements.{All-from_get_or}
+use Rattle.std.proofs.Common.{◌<◌, ◌++◌, length, ap, ◌∙◌, arith}
 use Rattle.ann_types.specs.Kept.{rule_of}
 use Rattle.ann_mdelete.specs.Decoded.{apart_of}
 use Rattle.ann_mpatch.proofs.Joins.{joined_few, joined_many, all_right}

@@ -1,4 +1,4 @@
-use Rattle.std.proofs.Common.{◌≡◌, ◌<◌, ◌-◌, ℕ, List, [], min, refl, sym, subst, arith, length}
+use Rattle.std.proofs.Common.{◌≡◌, ◌<◌, ℕ, List, [], refl, sym, subst, arith}
 use Rattle.ann_mpatch.specs.Patched.{HasPatched, standing}
 use Rattle.ann_mpatch.specs.Plan.{piece_size}
 use Rattle.ann_mpatch.proofs.Courses.{patched_as, patched_none, patched_then, refused_then}

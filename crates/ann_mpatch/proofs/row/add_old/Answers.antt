@@ -1,8 +1,6 @@
-use Rattle.std.proofs.Common.{◌≡◌, ◌∷◌, [], List, ℕ, refl, sym, ap, subst, ◌∙◌, rules}
-use Rattle.std.specs.Prelude.{None}
+use Rattle.std.proofs.Common.{◌≡◌, ◌∷◌, [], List, ℕ, refl, sym, subst, rules}
 use Rattle.ann_mdelete.specs.declared.refused.WorkRefused.TheVariants.{Disk, Memory}
 use Rattle.ann_mpatch.specs.Source.{IsBlock, source_in}
-use Rattle.ann_mpatch.specs.Patched.{IsRefusedFor, standing}
 use Rattle.ann_mpatch.proofs.Courses.{refused_as}
 use Rattle.ann_mpatch.proofs.row.add_old.Goals as goal
 

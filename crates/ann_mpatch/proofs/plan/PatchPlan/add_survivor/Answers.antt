@@ -1,9 +1,9 @@
-use Rattle.std.proofs.Common.{◌≡◌, ◌<◌, ℕ, sym, ap, subst, ◌∙◌, arith, length}
+use Rattle.std.proofs.Common.{◌≡◌, ◌<◌, sym, ap, subst, ◌∙◌, arith, length}
 use Rattle.std.specs.Arc.{arc_value}
 use Rattle.std.specs.Option.{option_map}
 use Rattle.std.specs.List.Sorted.{IsStrictlyIncreasing}
 use Rattle.std.proofs.lemmas.List.{get_or_read}
-use Rattle.ann_mpatch.specs.Source.{Source, source_in, source_of}
+use Rattle.ann_mpatch.specs.Source.{source_in, source_of}
 use Rattle.ann_mpatch.specs.Plan.{source_for}
 use Rattle.ann_mpatch.proofs.Courses.{patched_survivor}
 use Rattle.ann_mpatch.proofs.Listed.{list_few, list_rises}
