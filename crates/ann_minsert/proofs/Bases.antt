@@ -1,13 +1,13 @@
 -- The base of the definition, by decoded vectors: the graph that the first new points make by inserts where no point
 -- survives, and else the survivors.
-use Rattle.std.proofs.Common.{◌≡◌, ℕ, ◌≤◌, ◌<◌, Bool, true, false, cond, eqb, List, [], ◌∷◌, ◌++◌, refl, sym, ap, subst, ◌∙◌, arith, map, fold, take, length, get_or, append_assoc, append-nil, eq-eqb}
+use Rattle.std.proofs.Common.{◌≡◌, ℕ, ◌≤◌, ◌<◌, Bool, true, false, cond, List, [], ◌∷◌, ◌++◌, refl, sym, ap, subst, ◌∙◌, arith, map, fold, take, length, get_or, append_assoc, append-nil, eq-eqb}
 use Rattle.std.specs.Prelude.{Option, option_map}
 use Rattle.std.specs.List.{All, AllByRecursion}
 use Rattle.std.specs.List.Sorted.{IsStrictlyIncreasing}
 use Rattle.std.proofs.lemmas.Bool.{ne_eqb}
 use Rattle.std.proofs.lemmas.List.{map-append, take_all}
 use Rattle.ann_types.specs.Order.{has}
-use Rattle.ann_types.specs.Codes.{Book, decoded, decoded_points, decoded_graph}
+use Rattle.ann_types.specs.Codes.{decoded, decoded_points, decoded_graph}
 use Rattle.ann_types.specs.Graph.{Point, Graph, with_vector, empty_graph, pids_of, apart_in, visited}
 use Rattle.ann_types.specs.Index.{Index}
 use Rattle.ann_types.specs.Kept.{Rule, rule_of, kept}
@@ -18,10 +18,9 @@ use Rattle.ann_types.specs.declared.params.Params.{Params}
 use Rattle.ann_types.specs.declared.new_point.NewPoint.{NewPoint}
 use Rattle.ann_types.proofs.Graphs.{all_two, pids_put}
 use Rattle.ann_types.proofs.Merges.{new_pids, pids_decoded}
-use Rattle.ann_types.proofs.Sets.{Rises, rises_from_increasing, all_of_map}
+use Rattle.ann_types.proofs.Sets.{Rises, all_of_map}
 use Rattle.ann_minsert.specs.Mean.{AreRowsOf, IsCentral}
 use Rattle.ann_minsert.specs.Base.{BaseView, IsBaseOf, StandsFor}
-use Rattle.ann_minsert.specs.Made.{IsMade}
 use Rattle.ann_minsert.proofs.Firsts.{central_wide}
 
 abbrev pub vectors_of : List Point → List (List ℕ)

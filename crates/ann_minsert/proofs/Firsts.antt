@@ -1,10 +1,9 @@
 -- The first row that is nearest to the mean is the entry that the definition chooses.
-use Rattle.std.proofs.Common.{◌≡◌, ◌⊎◌, ℕ, zero, suc, ◌<◌, ◌/◌, ◌+◌, true, List, [], ◌∷◌, refl, sym, ap, subst, ◌∙◌, arith, map, length, get_or, take, replicate, inl, inr, eqb-true, eq-eqb}
-use Rattle.std.specs.Prelude.{Option, Some, None, option_map}
+use Rattle.std.proofs.Common.{◌≡◌, ◌⊎◌, ℕ, zero, suc, ◌<◌, ◌/◌, true, List, [], ◌∷◌, refl, sym, ap, subst, ◌∙◌, arith, length, get_or, take, replicate, inl, inr, eqb-true, eq-eqb}
+use Rattle.std.specs.Prelude.{Option, Some, option_map}
 use Rattle.std.specs.List.{All, slice_get}
 use Rattle.std.proofs.lemmas.Bool.{false≢true, cases_lt, cases_eq}
-use Rattle.std.proofs.lemmas.List.{length-map, take_more}
-use Rattle.std.proofs.lemmas.List.Sums.{sum_by_push}
+use Rattle.std.proofs.lemmas.List.{length-map}
 use Rattle.std.proofs.lemmas.List.FromFn.{fill_by_all}
 use Rattle.std.proofs.Math.ListN.{get_or-map}
 use Rattle.ann_types.specs.Distance.{distance}

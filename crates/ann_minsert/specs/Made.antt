@@ -1,7 +1,6 @@
 -- The base that the first new points make, where none survives.
 use Rattle.std.specs.Prelude.{ℕ, List, [], map}
 use Rattle.ann_types.specs.Codes.{Book, decoded_graph}
-use Rattle.ann_types.specs.Graph.{Graph}
 use Rattle.ann_types.specs.Merge.{base_of}
 use Rattle.ann_types.specs.declared.params.Params.{Params}
 use Rattle.ann_types.specs.declared.new_point.NewPoint.{NewPoint}

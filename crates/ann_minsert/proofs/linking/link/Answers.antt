@@ -1,4 +1,4 @@
-use Rattle.std.proofs.Common.{◌≡◌, ◌++◌, ◌∷◌, [], ℕ, List, sym, ap, subst, ◌∙◌, arith, length}
+use Rattle.std.proofs.Common.{◌≡◌, ◌++◌, ◌∷◌, [], ℕ, sym, ap, subst, ◌∙◌, arith, length}
 use Rattle.std.specs.List.{All}
 use Rattle.ann_types.specs.Codes.{Book, decoded}
 use Rattle.ann_types.specs.Kept.{rule_of, kept}
