@@ -82,15 +82,13 @@ module _ (base : ℕ) (links : List (List ℕ)) (i : ℕ) (list : List ℕ) (is 
 
 -- ---- the beginning and the end
 
-pub none_filled : (base : ℕ) (links : List (List ℕ)) (sizes ends numbers : List ℕ) → sizes ≡ sizes_of base links → ends ≡ map (λ row. sum (take row sizes)) (range_with_len 0 (length sizes)) → length numbers ≡ sum sizes → AreFilled base links (linking base links 0) ends numbers
-none_filled base links sizes ends numbers are places size =
-    let long : length sizes ≡ base = ap length are ∙ length-map-range_with_len (λ row. length (linking base links (length links) row)) 0 base in
+pub none_filled : (base : ℕ) (links : List (List ℕ)) (ends numbers : List ℕ) → ends ≡ map (place_of base links) (range_with_len 0 base) → length numbers ≡ place_of base links base → AreFilled base links (linking base links 0) ends numbers
+none_filled base links ends numbers places size =
     let at : (row : ℕ) → row < base → get_or ends row 0 ≡ place_of base links row =
-    λ row h. ap (λ (t : List ℕ). get_or t row 0) places ∙ get_or-map-range_with_len (λ r. sum (take r sizes)) 0 (length sizes) row row 0 (omega arith) (omega arith)
-    ∙ ap (λ (t : List ℕ). sum (take row t)) are in
+    λ row h. ap (λ (t : List ℕ). get_or t row 0) places ∙ get_or-map-range_with_len (place_of base links) 0 base row row 0 h (omega arith) in
     record {
-      rows = ap length places ∙ length-map-range_with_len (λ r. sum (take r sizes)) 0 (length sizes) ∙ long;
-      size = size ∙ ap sum (sym (take_all base sizes (omega arith))) ∙ ap (λ (t : List ℕ). sum (take base t)) are;
+      rows = ap length places ∙ length-map-range_with_len (place_of base links) 0 base;
+      size = size;
       end = λ row h. at row h ∙ (let e : place_of base links row ≡ place_of base links row + 0 = omega arith in e);
       stand = λ row h. ap (λ (e : ℕ). slice_range numbers (place_of base links row) e) (at row h)
           ∙ ap (λ (n : ℕ). take n (drop (place_of base links row) numbers)) (let e : place_of base links row - place_of base links row ≡ 0 = omega arith in e);

@@ -11,14 +11,10 @@ use Rattle.ann_types.specs.Order.{has}
 use Rattle.ann_types.proofs.Ordered.{has_append}
 use Rattle.ann_types.proofs.Sets.{Rises}
 use Rattle.ann_mdelete.proofs.Pieces.{range_more}
+use Rattle.ann_mplan.proofs.Rising.{above_at}
 use Rattle.ann_mplan.specs.Back.{AreFilled, linking, once, place_of, sizes_of}
 
 -- ---- a list's rows one by one
-
-above_at : (x : ℕ) (xs : List ℕ) (k : ℕ) → AllByRecursion (λ y. x < y) xs → k < length xs → x < get_or xs k 0
-above_at x [] k a l = absurd (omega arith)
-above_at x (y ∷ xs) zero (h, a) l = h
-above_at x (y ∷ xs) (suc k) (h, a) l = above_at x xs k a (omega arith)
 
 not_earlier : (xs : List ℕ) (k : ℕ) → Rises xs → k < length xs → has (take k xs) (get_or xs k 0) ≡ false
 not_earlier [] k w l = absurd (omega arith)

@@ -47,6 +47,24 @@ fn places(sizes: &mut [usize]) -> usize
     place
 }
 
+/// Where the later rows of each row of the base begin, side by side, and how many they are in all. The only error is want
+/// of memory.
+fn starts(
+    alloc: Global,
+    links: &Lists,
+    base_rows: u32,
+) -> Result<(Vec<usize>, usize), AllocError>
+    requires into { AreInto base_rows links.now }
+    requires few { base_rows + length links.now < 2 ^ 32 }
+    ensures places { IfOk result (λ starts.
+        starts.0.items ≡ map (place_of base_rows links.now) (range_with_len 0 base_rows)) }
+    ensures total { IfOk result (λ starts. starts.1 ≡ place_of base_rows links.now base_rows) }
+{
+    let mut starts = sizes(alloc, links, base_rows)?;
+    let total = places(&mut starts);
+    Ok((starts, total))
+}
+
 /// Puts a later row behind those of each row of its list.
 fn fill_each(ends: &mut [usize], numbers: &mut [u32], links: &Lists, base_rows: u32, i: u32)
     requires into { AreInto base_rows links.now }
@@ -83,8 +101,7 @@ pub fn invert(alloc: Global, links: &Lists, base_rows: u32) -> Result<Lists, All
     requires few { base_rows + length links.now < 2 ^ 32 }
     ensures { IfOk result (λ deltas. deltas ≡ deltas_of base_rows links.now) }
 {
-    let mut ends = sizes(alloc, links, base_rows)?;
-    let total = places(&mut ends);
+    let (mut ends, total) = starts(alloc, links, base_rows)?;
     let mut numbers = vec![in alloc; 0; total]?;
     fill(&mut ends, &mut numbers, links, base_rows);
     Ok(Lists::from_parts(ends, numbers))
