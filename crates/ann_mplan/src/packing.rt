@@ -1,9 +1,9 @@
 ghost use Rattle.std.specs.Prelude.{◌≡◌, ◌≤◌, ◌<◌, ◌^◌, ◌++◌, ◌∷◌, ℕ, [], IsTrue, All, length, map, get_or, IfOk, OnOk, OnErr};
 ghost use Rattle.ann_types.specs.Order.{has};
 ghost use Rattle.ann_mdelete.specs.Rows.{left_rows};
-ghost use Rattle.ann_mplan.specs.Packing.{rank_in};
+ghost use Rattle.ann_mplan.specs.Packing.{IsRanked, rank_in};
 
-use ann_mdelete::Lists;
+use ann_mdelete::{Decoded, Lists, Loaded};
 use arrayvec::ArrayVec;
 use std::alloc::{AllocError, Global};
 use std::marker::Model;
@@ -72,8 +72,7 @@ impl Packing {
     /// Adds a list of survivors, by their ranks, as that of one more row. The only error is want of memory, and all is
     /// then as before.
     pub fn add_ranked(&self, list: &[u32], out: &mut Lists) -> Result<(), AllocError>
-        requires few { length list.now ≤ 128 }
-        requires survive { All (λ row. IsTrue (has self.now row)) list.now }
+        requires { IsRanked self.now list.now }
         ensures added { OnOk result (out.new ≡ out.old ++ map (rank_in self.now) list.now ∷ []) }
         ensures kept { OnErr result (out.new ≡ out.old) }
     {
@@ -82,5 +81,30 @@ impl Packing {
             ranks.push(self.rank(*row));
         }
         out.push(&ranks)
+    }
+
+    /// Adds the lists of a piece, by ranks. The only error is want of memory.
+    pub fn add_piece(&self, piece: &Loaded, out: &mut Lists) -> Result<(), AllocError>
+        requires { (i : ℕ) → i < length piece.now.lists → IsRanked self.now (get_or piece.now.lists i []) }
+        ensures { OnOk result (out.new ≡ out.old ++ map (map (rank_in self.now)) piece.now.lists) }
+    {
+        for i in 0..piece.count() {
+            self.add_ranked(piece.list(i), out)?;
+        }
+        Ok(())
+    }
+
+    /// The decoded vectors of the survivors, by ranks. The only error is want of memory.
+    pub fn decoded(&self, alloc: Global, decoded: &Decoded) -> Result<Decoded, AllocError>
+        requires few { length self.now ≤ length decoded.now }
+        requires inside { All (λ row. row < length decoded.now) self.now }
+        ensures { IfOk result (λ left. left ≡ map (λ row. get_or decoded.now row []) self.now) }
+    {
+        decoded.known();
+        let mut left = Decoded::new(alloc);
+        for row in self.survivors() {
+            left.push_vector(decoded.vector(*row))?;
+        }
+        Ok(left)
     }
 }
