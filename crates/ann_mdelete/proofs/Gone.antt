@@ -11,7 +11,7 @@ use Rattle.ann_types.specs.Graph.{links_of, vector_of, apart_in}
 use Rattle.ann_mdelete.specs.Rows.{row_point, by_rows, gone_rows}
 use Rattle.ann_mdelete.specs.Decoded.{apart_of}
 
-has_range : (n a q : ℕ) → a ≤ q → q < a + n → has (range_with_len a n) q ≡ true
+pub has_range : (n a q : ℕ) → a ≤ q → q < a + n → has (range_with_len a n) q ≡ true
 has_range zero a q l h = absurd (omega arith)
 has_range (suc n) a q l h = elim (cases_eq q a) as (λ _. (eqb q a || has (range_with_len (a + 1) n) q) ≡ true) [
   | inl e ↦ ap (λ t. t || has (range_with_len (a + 1) n) q) (eq-eqb q a e)

@@ -1,9 +1,9 @@
 pub mod Gone
 pub mod Held
+pub mod Left
 pub mod Listed
 pub mod Loads
 pub mod Parts
-pub mod Phase
 pub mod Pieces
 pub mod Points
 pub mod Repairs

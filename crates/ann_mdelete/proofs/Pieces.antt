@@ -35,7 +35,7 @@ pub row_left : (rule : Rule) (lists vectors : List (List ℕ)) (gone : List Bool
 row_left rule lists vectors gone row is = ap (λ t. map (repaired_row rule lists vectors gone) (cond (not t) (row ∷ []) [])) is
 
 -- they are no more than the rows
-few_left : (gone xs : List ℕ) → length (without gone xs) ≤ length xs
+pub few_left : (gone xs : List ℕ) → length (without gone xs) ≤ length xs
 few_left gone [] = omega arith
 few_left gone (x ∷ xs) =
     let rest = few_left gone xs in

@@ -57,26 +57,26 @@ below_flat n f [] each a = tt
 below_flat n f (x ∷ xs) each (a, c) = below_append n (f x) (flat_map f xs) (each x a) (below_flat n f xs each c)
 
 -- functions that agree below n agree on rows below n
-each_below : {X : Type 0} (f g : ℕ → X) (n : ℕ) → ((r : ℕ) → r < n → f r ≡ g r) → (xs : List ℕ) → Below n xs → map f xs ≡ map g xs
+pub each_below : {X : Type 0} (f g : ℕ → X) (n : ℕ) → ((r : ℕ) → r < n → f r ≡ g r) → (xs : List ℕ) → Below n xs → map f xs ≡ map g xs
 each_below f g n same [] b = refl
 each_below f g n same (x ∷ xs) (h, b) = ap₂ ◌∷◌ (same x h) (each_below f g n same xs b)
 
-map_twice : {A B C : Type 0} (f : A → B) (g : B → C) (xs : List A) → map g (map f xs) ≡ map (λ x. g (f x)) xs
+pub map_twice : {A B C : Type 0} (f : A → B) (g : B → C) (xs : List A) → map g (map f xs) ≡ map (λ x. g (f x)) xs
 map_twice f g [] = refl
 map_twice f g (x ∷ xs) = ap (λ t. g (f x) ∷ t) (map_twice f g xs)
 
-filter_of : {A B : Type 0} (f : A → B) (q : B → Bool) (xs : List A) → filter q (map f xs) ≡ map f (filter (λ x. q (f x)) xs)
+pub filter_of : {A B : Type 0} (f : A → B) (q : B → Bool) (xs : List A) → filter q (map f xs) ≡ map f (filter (λ x. q (f x)) xs)
 filter_of f q [] = refl
 filter_of f q (x ∷ xs) =
     ap (λ t. cond (q (f x)) (f x ∷ t) t) (filter_of f q xs)
     ∙ elim (q (f x)) as (λ t. cond t (f x ∷ map f (filter (λ x. q (f x)) xs)) (map f (filter (λ x. q (f x)) xs)) ≡ map f (cond t (x ∷ filter (λ x. q (f x)) xs) (filter (λ x. q (f x)) xs))) [ true ↦ refl | false ↦ refl ]
 
-filter_below : (q q' : ℕ → Bool) (n : ℕ) → ((r : ℕ) → r < n → q' r ≡ q r) → (xs : List ℕ) → Below n xs → filter q' xs ≡ filter q xs
+pub filter_below : (q q' : ℕ → Bool) (n : ℕ) → ((r : ℕ) → r < n → q' r ≡ q r) → (xs : List ℕ) → Below n xs → filter q' xs ≡ filter q xs
 filter_below q q' n same [] b = refl
 filter_below q q' n same (x ∷ xs) (h, b) =
     ap (λ t. cond t (x ∷ filter q' xs) (filter q' xs)) (same x h) ∙ ap (λ t. cond (q x) (x ∷ t) t) (filter_below q q' n same xs b)
 
-below_range : (a k n : ℕ) → a + k ≤ n → Below n (range_with_len a k)
+pub below_range : (a k n : ℕ) → a + k ≤ n → Below n (range_with_len a k)
 below_range a zero n h = tt
 below_range a (suc k) n h = (omega arith, below_range (a + 1) k n (omega arith))
 

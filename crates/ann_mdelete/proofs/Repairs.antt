@@ -43,7 +43,7 @@ all_flat : (P : ℕ → Type 0) (f : ℕ → List ℕ) (xs : List ℕ) → ((x :
 all_flat P f [] each = All-nil P
 all_flat P f (x ∷ xs) each = All-append P (f x) (flat_map f xs) (each x) (all_flat P f xs each)
 
-all_behind : (P : ℕ → Type 0) (lists : List (List ℕ)) (gone : List Bool) (list : List ℕ) → ((row : ℕ) → row < length lists → All P (get_or lists row [])) → All P (behind lists gone list)
+pub all_behind : (P : ℕ → Type 0) (lists : List (List ℕ)) (gone : List Bool) (list : List ℕ) → ((row : ℕ) → row < length lists → All P (get_or lists row [])) → All P (behind lists gone list)
 all_behind P lists gone list each = all_flat P (λ row. get_or lists row []) (filter (has (gone_rows gone)) list)
     (λ x. elim (cases_lt x (length lists)) as (λ _. All P (get_or lists x [])) [
       | inl h ↦ each x h

@@ -1,0 +1,9 @@
+pub mod Deltas
+pub mod Filled
+pub mod Packed
+pub mod Places
+pub mod Ranked
+pub mod Reading
+pub mod Rising
+pub mod Sizes
+pub mod Standing
