@@ -37,8 +37,10 @@ fn width(decoded: &Decoded) -> usize
 }
 
 impl Base {
-    /// The base of points by rows in order of Pid: the neighbours of each row, and its decoded vector. It is entered at the
-    /// row that is nearest to the mean of all. The only error is want of memory.
+    /// The base of points by rows in order of Pid: the neighbours of each row, which are other rows in ascending order,
+    /// and its decoded vector. It is entered at the row that is nearest to the mean of all. Without rows it has no entry.
+    ///
+    /// The only error is want of memory.
     pub fn of(alloc: Global, lists: Lists, decoded: Decoded) -> Result<Base, AllocError>
         requires { AreListsOf (length decoded) lists }
         ensures { IfOk result (λ base. IsBaseOf lists decoded base) }

@@ -18,7 +18,9 @@ use ann_types::{NewPoint, Params};
 use arrayvec::ArrayVec;
 use std::alloc::AllocError;
 
-/// Walks through the base for a vector, and leaves in `visited` the rows that it visited. The only error is want of memory.
+/// Walks through the base for a vector, and leaves in `visited` the rows that it visited.
+///
+/// The only error is want of memory.
 fn visit(
     base: &Base,
     query: &[u8],
