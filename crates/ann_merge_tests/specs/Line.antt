@@ -7,7 +7,7 @@ before zero = []
 before (suc row) = row ∷ []
 
 abbrev pub behind : ℕ → ℕ → List ℕ
-behind count row = if nat_lt (row + 1) count then row + 1 ∷ [] else []
+behind count row = if nat_lt (row + 1) count then (row + 1) ∷ [] else []
 
 -- the neighbours of a row of so many
 abbrev pub line_list : ℕ → ℕ → List ℕ

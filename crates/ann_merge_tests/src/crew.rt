@@ -93,7 +93,9 @@ fn pieces_stand_in_order_for_each_number_of_workers(rt: HostRuntime) -> Result<(
     let mut many = vec![in rt.alloc(); 1, 2, 3, 4, 5, 6, 7, 8, 9, 10, 11, 12, 13, 14, 15, 16]?;
     let alone = run(&rt, rt.alloc(), &NoGate, &NONE, stretch, &mut one)?;
     let together = run(&rt, rt.alloc(), &NoGate, &NONE, stretch, &mut many)?;
-    assert!(rt; alone.as_slice() == [10000, 10201, 10404, 10609, 10816].as_slice() && alone == together);
+    assert!(rt;
+        alone.as_slice() == [10000, 10201, 10404, 10609, 10816].as_slice() && alone == together
+    );
     assert!(rt; one.as_slice() == [7].as_slice() && many[0] == 1 && many[15] == 16);
     Ok(())
 }

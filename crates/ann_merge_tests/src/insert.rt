@@ -40,12 +40,13 @@ fn a_base_is_made_of_decoded_vectors(rt: HostRuntime) -> Result<(), Fail> {
 fn linked(alloc: Global, components: &[u8]) -> Result<Lists, Fail>
     requires { length components.now < 2 ^ 16 }
 {
+    let params = params()?;
     let base = Base::of(alloc, line(alloc, 2)?, vectors(alloc, &[10, 30])?)?;
     let new = points(alloc, 2, components)?;
     let mut scratch = LinkScratch::new(alloc)?;
     let mut links = Lists::new(alloc);
     let book = codebook(alloc, 0xFF)?;
-    link_piece(&base, &new, &book, &params()?, &mut scratch, &mut links)?;
+    link_piece(&base, &new, &book, &params, &mut scratch, &mut links)?;
     Ok(links)
 }
 

@@ -6,12 +6,7 @@ use std::alloc::{AllocError, Global};
 use std::test::Fail;
 
 // The survivors' lists of the piece from this row on, in a line of so many rows, whose components are these.
-fn repaired(
-    alloc: Global,
-    components: &[u8],
-    gone: &[bool],
-    first: u32,
-) -> Result<Loaded, Fail>
+fn repaired(alloc: Global, components: &[u8], gone: &[bool], first: u32) -> Result<Loaded, Fail>
     requires rows { length gone.now ≡ length components.now }
     requires few { length components.now < 2 ^ 32 }
     requires piece { first % 256 ≡ 0 }

@@ -2,7 +2,8 @@
 
 ghost use Rattle.std.specs.Prelude.{◌≡◌, ◌<◌, ◌+◌, ◌-◌, ◌^◌, ◌∷◌, [], All, length, map, IfOk};
 ghost use Rattle.std.specs.List.{range_with_len};
-ghost use Rattle.ann_merge_tests.specs.Line.{line_list, line_lists};
+ghost use Rattle.ann_types.specs.Legal.{pid_end};
+ghost use Rattle.ann_merge_tests.specs.Line.{before, line_list, line_lists};
 
 use ann_mdelete::{Decoded, Lists};
 use ann_pq::Codebook;
@@ -38,15 +39,22 @@ pub(crate) fn codebook(alloc: Global, mask: u8) -> Result<Codebook, AllocError>
     Codebook::read(alloc, &bytes, 1, 1).map_err(|_refused| AllocError)
 }
 
-/// The neighbours of a row in a line of so many.
-fn link_row(count: u32, row: u32, list: &mut ArrayVec<u32, 128>)
-    requires { row < count }
-    ensures { list.new.items ≡ line_list count row }
+// The row before a row of a line.
+fn link_before(row: u32, list: &mut ArrayVec<u32, 128>)
+    ensures { list.new.items ≡ before row }
 {
     list.clear();
     if row > 0 {
         list.push(row - 1);
     }
+}
+
+// The neighbours of a row in a line of so many.
+fn link_row(count: u32, row: u32, list: &mut ArrayVec<u32, 128>)
+    requires { row < count }
+    ensures { list.new.items ≡ line_list count row }
+{
+    link_before(row, list);
     if row + 1 < count {
         list.push(row + 1);
     }
@@ -86,6 +94,7 @@ pub(crate) fn points(
     requires { first + length components.now < 2 ^ 32 - 1 }
     ensures pids { IfOk result (λ points.
         map (λ x. x.pid) points.items ≡ range_with_len first (length components.now)) }
+    ensures small { IfOk result (λ points. All (λ x. x.pid < pid_end) points.items) }
     ensures vectors { IfOk result (λ points. All (λ x. length x.vector ≡ 1) points.items) }
 {
     let mut points = Vec::new(alloc);
