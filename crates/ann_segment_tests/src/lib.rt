@@ -1,4 +1,5 @@
-//! Tests of vaults, segments and searches: segments that are written, changed and searched, and views over them.
+//! Tests of vaults, segments and searches: segments that are written, changed, read in pieces and searched, and views over
+//! them.
 //!
 //! They stand in a crate of their own, since a check of a crate's tests proves the whole crate once more.
 #![tactic(auto)]
@@ -7,6 +8,8 @@
 mod beam;
 #[cfg(test)]
 mod collect;
+#[cfg(test)]
+mod pieces;
 #[cfg(test)]
 mod points;
 #[cfg(test)]
