@@ -8,6 +8,8 @@ mod crew;
 #[cfg(test)]
 mod insert;
 #[cfg(test)]
+mod patch;
+#[cfg(test)]
 mod repair;
 #[cfg(test)]
 mod rows;
