@@ -70,9 +70,11 @@ impl Loaded {
             let end = start + 4096 * (last - first + 1) in
             OnOk result (self.new.page ≡ slice_range (S.bytes segment.now.seal) start end) }
         ensures counted { OnOk result (HasRead
-            (counts_of (E.reads eye.old) (E.faults eye.old)) (counts_of (E.reads eye.new) (E.faults eye.new))) }
+            (counts_of (E.reads eye.old) (E.faults eye.old))
+            (counts_of (E.reads eye.new) (E.faults eye.new))) }
         ensures refused { IfErr result (IsUnread
-            (counts_of (E.reads eye.old) (E.faults eye.old)) (counts_of (E.reads eye.new) (E.faults eye.new))) }
+            (counts_of (E.reads eye.old) (E.faults eye.old))
+            (counts_of (E.reads eye.new) (E.faults eye.new))) }
     {
         let start = segment.node_block(first);
         let end = segment.node_block(last) + 1;
