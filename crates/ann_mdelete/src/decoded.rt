@@ -33,8 +33,8 @@ fn add_decoded(bytes: &mut Vec<u8>, book: &Codebook, code: &[u8]) -> Result<(), 
     ensures added { OnOk result (bytes.new.items ≡ bytes.old.items ++ decode book.now.book code.now) }
     ensures width { OnOk result (length (decode book.now.book code.now) ≡ book.now.d) }
     ensures long { OnOk result (vec_len bytes.new ≡ vec_len bytes.old + book.now.d) }
-    ensures kept { OnErr result (
-        (bytes.new.items ≡ bytes.old.items) × (vec_len bytes.new ≡ vec_len bytes.old)) }
+    ensures kept { OnErr result
+        ((bytes.new.items ≡ bytes.old.items) × (vec_len bytes.new ≡ vec_len bytes.old)) }
 {
     let start = bytes.len();
     let width = usize::from(book.d());

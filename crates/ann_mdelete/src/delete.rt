@@ -3,6 +3,7 @@ ghost use Rattle.std.specs.List.{list_any};
 ghost use Rattle.ann_types.specs.Order.{has};
 ghost use Rattle.ann_types.specs.Kept.{rule_of};
 ghost use Rattle.ann_types.specs.Merge.{without};
+ghost use Rattle.ann_mdelete.specs.Phase.{IsReady, new_list};
 ghost use Rattle.ann_mdelete.specs.Rows.{AreRows, behind, gone_rows, repaired_row};
 
 use crate::decoded::Decoded;
@@ -77,8 +78,7 @@ impl<'a> Phase<'a> {
         list: &[u32],
     ) -> Result<(), AllocError>
         requires list { All (λ row. row < length self.now.gone.now) list.now }
-        requires rows { AreRows self.now.params.now
-            self.now.lists.now self.now.decoded.now self.now.gone.now }
+        requires rows { IsReady self.now }
         ensures { let gone = self.now.gone.now in
             let added = without (p ∷ gone_rows gone) (behind self.now.lists.now gone list.now) in
             OnOk result (candidates.new.rows ≡ candidates.old.rows ++ added) }
@@ -98,11 +98,9 @@ impl<'a> Phase<'a> {
         scratch: &mut Candidates,
         out: &mut ArrayVec<u32, 128>,
     ) -> Result<(), AllocError>
-        requires rows { AreRows self.now.params.now
-            self.now.lists.now self.now.decoded.now self.now.gone.now }
+        requires rows { IsReady self.now }
         requires row { p < length self.now.lists.now }
-        ensures { OnOk result (out.new.items ≡ repaired_row (rule_of self.now.params.now)
-            self.now.lists.now self.now.decoded.now self.now.gone.now p) }
+        ensures { OnOk result (out.new.items ≡ new_list self.now p) }
     {
         let list = self.lists.get(p);
         out.clear();

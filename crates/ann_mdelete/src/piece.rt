@@ -1,6 +1,7 @@
 ghost use Rattle.std.specs.Prelude.{◌≡◌, ◌≤◌, ◌<◌, ◌+◌, ◌%◌, ◌++◌, length, OnOk};
 ghost use Rattle.ann_types.specs.Kept.{rule_of};
 ghost use Rattle.ann_mdelete.specs.Loaded.{piece_rows};
+ghost use Rattle.ann_mdelete.specs.Phase.{IsReady, new_lists};
 ghost use Rattle.ann_mdelete.specs.Rows.{AreRows, repaired_rows};
 
 use crate::decoded::Decoded;
@@ -13,14 +14,11 @@ use std::alloc::AllocError;
 impl Loaded {
     /// Adds the new list of a row that survives, and nothing for one that doesn't. The only error is want of memory.
     fn repair_row(&mut self, phase: &Phase, row: u32) -> Result<(), AllocError>
-        requires rows { AreRows phase.now.params.now
-            phase.now.lists.now phase.now.decoded.now phase.now.gone.now }
+        requires rows { IsReady phase.now }
         requires row { row < length phase.now.lists.now }
         requires few { length self.old.lists < 256 }
         ensures tags { self.new.tags ≡ self.old.tags }
-        ensures added { OnOk result (self.new.lists ≡ self.old.lists
-            ++ repaired_rows (rule_of phase.now.params.now)
-            phase.now.lists.now phase.now.decoded.now phase.now.gone.now row 1) }
+        ensures added { OnOk result (self.new.lists ≡ self.old.lists ++ new_lists phase.now row 1) }
     {
         if phase.is_gone(row) {
             return Ok(());
@@ -31,14 +29,11 @@ impl Loaded {
 
     /// Adds the new lists of those of some rows that survive. The only error is want of memory.
     fn repair_rows(&mut self, phase: &Phase, first: u32, rows: u32) -> Result<(), AllocError>
-        requires rows { AreRows phase.now.params.now
-            phase.now.lists.now phase.now.decoded.now phase.now.gone.now }
+        requires rows { IsReady phase.now }
         requires inside { first + rows ≤ length phase.now.lists.now }
         requires few { length self.old.lists + rows ≤ 256 }
         ensures tags { self.new.tags ≡ self.old.tags }
-        ensures added { OnOk result (self.new.lists ≡ self.old.lists
-            ++ repaired_rows (rule_of phase.now.params.now)
-            phase.now.lists.now phase.now.decoded.now phase.now.gone.now first rows) }
+        ensures added { OnOk result (self.new.lists ≡ self.old.lists ++ new_lists phase.now first rows) }
     {
         phase.decoded.known();
         for i in 0..rows {
@@ -67,8 +62,8 @@ pub fn repair_piece(
     requires first { first < length lists.now }
     ensures tags { piece.new.tags ≡ piece.old.tags }
     ensures repaired { let rows = piece_rows (length lists.now) first in
-        OnOk result (piece.new.lists
-        ≡ repaired_rows (rule_of params.now) lists.now decoded.now gone.now first rows) }
+        let left = repaired_rows (rule_of params.now) lists.now decoded.now gone.now first rows in
+        OnOk result (piece.new.lists ≡ left) }
 {
     let phase = Phase {
         lists,

@@ -85,8 +85,8 @@ fn fill(ends: &mut [usize], numbers: &mut [u32], links: &Lists, base_rows: u32)
     requires into { AreInto base_rows links.now }
     requires few { base_rows + length links.now < 2 ^ 32 }
     requires filled { AreFilled base_rows links.now (linking base_rows links.now 0) ends.old numbers.old }
-    ensures { let all = length links.now in
-        AreFilled base_rows links.now (linking base_rows links.now all) ends.new numbers.new }
+    ensures { let all = linking base_rows links.now (length links.now) in
+        AreFilled base_rows links.now all ends.new numbers.new }
 {
     for i in 0..links.len() as u32 {
         fill_each(ends, numbers, links, base_rows, i);
