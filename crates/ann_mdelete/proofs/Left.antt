@@ -52,11 +52,11 @@ repaired_left params lists vectors gone p w h =
     (All-append (λ x. x < length lists) own (behind lists gone own) (w.graph p h).inside (all_behind (λ x. x < length lists) lists gone own (λ row l. (w.graph row l).inside))) in
     elim (list_any (has dead) own) as (λ t. list_any (has dead) own ≡ t → IsLeft params (length lists) gone p (repaired_row (rule_of params) lists vectors gone p)) [
       | true ↦ λ some. subst (IsLeft params (length lists) gone p) (sym (renews (rule_of params) lists vectors gone p w.with_vectors some)) (record {
-          may = kept_may params (apart_of vectors) (length lists) p candidates inside others;
-          survive = kept_all (λ x. has dead x ≡ false) (rule_of params) (apart_of vectors) p candidates alive;
-        })
+        may = kept_may params (apart_of vectors) (length lists) p candidates inside others;
+        survive = kept_all (λ x. has dead x ≡ false) (rule_of params) (apart_of vectors) p candidates alive;
+      })
       | false ↦ λ none. subst (IsLeft params (length lists) gone p) (sym (stays (rule_of params) lists vectors gone p none)) (record {
-          may = w.graph p h;
-          survive = All-from_recursion (λ x. has dead x ≡ false) own (all_from_has (λ x. has dead x ≡ false) own (λ x k. none_any (has dead) own x none k));
-        })
+        may = w.graph p h;
+        survive = All-from_recursion (λ x. has dead x ≡ false) own (all_from_has (λ x. has dead x ≡ false) own (λ x k. none_any (has dead) own x none k));
+      })
     ] refl

@@ -49,11 +49,7 @@ fn places(sizes: &mut [usize]) -> usize
 
 /// Where the later rows of each row of the base begin, side by side, and how many they are in all. The only error is want
 /// of memory.
-fn starts(
-    alloc: Global,
-    links: &Lists,
-    base_rows: u32,
-) -> Result<(Vec<usize>, usize), AllocError>
+fn starts(alloc: Global, links: &Lists, base_rows: u32) -> Result<(Vec<usize>, usize), AllocError>
     requires into { AreInto base_rows links.now }
     requires few { base_rows + length links.now < 2 ^ 32 }
     ensures places { IfOk result (λ starts.
