@@ -1,11 +1,10 @@
 -- Entries applied to a view, one on.
-use Rattle.std.proofs.Common.{◌≡◌, ◌≤◌, ◌<◌, ℕ, zero, suc, ◌+◌, Bool, true, false, cond, not, eqb, ltb, ◌&&◌, List, [], ◌∷◌, ◌++◌, refl, sym, ap, ap₂, subst, ◌∙◌, arith, take, drop, length, get_or, eqb-true, ltb-true}
-use Rattle.std.specs.Prelude.{Option, Some, None, IsSome, is_some, is_none}
+use Rattle.std.proofs.Common.{◌≡◌, ◌≤◌, ◌<◌, ℕ, zero, suc, ◌+◌, Bool, true, false, cond, not, ◌&&◌, List, [], ◌∷◌, ◌++◌, refl, sym, ap, ap₂, subst, ◌∙◌, arith, take, drop, length, get_or, eqb-true, ltb-true}
+use Rattle.std.specs.Prelude.{Option, Some, None, IsSome, is_none}
 use Rattle.std.specs.List.{list_all}
 use Rattle.std.specs.FinMap.{get}
 use Rattle.std.proofs.lemmas.Bool.{false≢true, and_parts, not-true}
-use Rattle.std.proofs.lemmas.List.{take_more, take_all, take-append-drop, take_at, append_assoc}
-use Rattle.ann_types.specs.Graph.{Graph}
+use Rattle.std.proofs.lemmas.List.{take_more, take_all, take-append-drop}
 use Rattle.ann_types.specs.Index.{Index}
 use Rattle.ann_types.specs.Fold.{Begun, State, fold_of}
 use Rattle.ann_types.specs.Legal.{pid_end, fits, has_work, may_follow, is_legal, IsLegal}
@@ -13,19 +12,19 @@ use Rattle.ann_types.specs.Lists.{BasedList, with_entry, with_entries, makes_poi
 use Rattle.ann_types.specs.declared.params.Params.{Params}
 use Rattle.ann_types.specs.declared.entry.Entry.{Entry}
 use Rattle.ann_types.specs.declared.entry.Entry.TheVariants as entry
-use Rattle.ann_types.proofs.Folds.{entries_none, entries_then, legal_before, legal_push, live_entries}
-use Rattle.ann_types.proofs.Tagged.{room_of, tags_differ}
+use Rattle.ann_types.proofs.Folds.{entries_then, legal_before, legal_push, live_entries}
+use Rattle.ann_types.proofs.Tagged.{tags_differ}
 use Rattle.ann_laws.specs.Replays.{is_end}
 use Rattle.ann_pq.specs.Codebook.{CodebookView}
 use Rattle.ann_tags.specs.Tags.{map_of}
 use Rattle.ann_tags.proofs.Maps.{live_is, pids_found}
 use Rattle.ann_reopen.specs.Gone.{gone_by, gone_from}
 use Rattle.ann_view.specs.Holding.{BringsMerge}
-use Rattle.ann_view.specs.Stands.{StandsFor, IsEntryOf, lti_of}
+use Rattle.ann_view.specs.Stands.{StandsFor, IsEntryOf}
 use Rattle.ann_view.specs.Steps.{applied, FitsIn, MayApply}
-use Rattle.ann_view.specs.View.{IndexView, index_of, whole}
+use Rattle.ann_view.specs.View.{IndexView, index_of}
 use Rattle.ann_view.specs.declared.op.Op.{Op}
-use Rattle.ann_view.specs.declared.op.Op.TheVariants.{Insert, Delete, Replace, Begin, End, Close}
+use Rattle.ann_resume.proofs.Cutting.{length-gone_from}
 use Rattle.ann_resume.specs.Applied.{IsNext, AreNext, CanMake, IsMadeOf, IsSameIndex}
 
 -- ---- one entry
@@ -38,8 +37,8 @@ module _ {S : Type 0} (view : IndexView S) (h : BasedList) (e : Entry) (gone : O
   follows : Follows e
   follows = (and_parts _ _ (sym (legal_push (index_of view) h e) ∙ n.legal.entries)).1
 
-some_found : (live : Names) (tag : ℕ) (gone : Option ℕ) → gone ≡ get (map_of live) tag → is_live live tag ≡ true → IsSome gone
-some_found live tag gone is live_now = subst (λ (o : Option ℕ). IsSome o) (sym is) (sym (live_is live tag) ∙ live_now)
+some_found : (live : Names) (tag : ℕ) (pid : Option ℕ) → pid ≡ get (map_of live) tag → is_live live tag ≡ true → IsSome pid
+some_found live tag pid is live_now = subst (λ (o : Option ℕ). IsSome o) (sym is) (sym (live_is live tag) ∙ live_now)
 
 module _ {S : Type 0} (view : IndexView S) (h : BasedList) (gone : Option ℕ) where
   can_one : (e : Entry) → may_follow view.params h (fold_of (index_of view) h) e ≡ true → is_end e ≡ false → gone ≡ gone_by (map_of (live_of h)) e → CanMake e gone
@@ -73,7 +72,7 @@ module _ {S : Type 0} (view : IndexView S) (h : BasedList) (gone : Option ℕ) w
   fits_now : (vector : List ℕ) → StandsFor view h → fits view.params h vector ≡ true → FitsIn view vector
   fits_now vector stands f = record {
     width = eqb-true (length vector) view.params.d (and_parts _ _ f).0;
-    pid = (let room = room_of view.params h vector f in let next = stands.next in omega arith);
+    pid = (let room = ltb-true (next_pid h) pid_end (and_parts _ _ f).1 in let next = stands.next in omega arith);
   }
 
   none_open : (o : Option Begun) (w : Bool) → (is_none o && w) ≡ true → o ≡ None
@@ -157,6 +156,13 @@ next_of_all old view h es gone i e g n same stands l is deletes =
           ∙ ap₂ (λ (t : Names) (x : Entry). gone_by (map_of t) x) (sym (live_entries h (take i es))) (sym is);
     }
 
--- the long-term graph in other words
-pub lti_same : {S : Type 0} (old new : IndexView S) (h : BasedList) → IsSameIndex old new → lti_of new h ≡ lti_of old h
-lti_same old new h same = ap (λ (x : Index). (fold_of x h).lti) (index_same old new same)
+pub same_then : {S : Type 0} (one two three : IndexView S) → IsSameIndex one two → IsSameIndex two three → IsSameIndex one three
+same_then one two three a b = record { params = b.params ∙ a.params; book = b.book ∙ a.book; segment = b.segment ∙ a.segment; closed = b.closed ∙ a.closed }
+
+pub get_again : {A : Type 0} (xs : List A) (i : ℕ) (d : A) → i < length xs → get_or xs i d ≡ get_or xs i (get_or xs i d)
+get_again [] i d l = absurd (omega arith)
+get_again (x ∷ xs) zero d l = refl
+get_again (x ∷ xs) (suc i) d l = get_again xs i d (omega arith)
+
+pub gone_long : {S : Type 0} (view : IndexView S) (h : BasedList) (es : List Entry) (gone : List (Option ℕ)) → AreNext view h es gone → length gone ≡ length es
+gone_long view h es gone n = ap (λ (t : List (Option ℕ)). length t) n.deletes ∙ length-gone_from (live_of h) (next_pid h) es

@@ -1,16 +1,15 @@
 -- What is left of a list behind the Begin of its last merge.
-use Rattle.std.proofs.Common.{◌≡◌, ℕ, ◌+◌, ◌-◌, cond, List, [], ◌∷◌, ◌++◌, refl, sym, ap, ap₂, ◌∙◌, arith, take, drop, length, append_assoc, count_by, length-append}
-use Rattle.std.specs.Prelude.{Option, Some, None}
+use Rattle.std.proofs.Common.{◌≡◌, ℕ, ◌+◌, ◌-◌, cond, List, [], ◌∷◌, ◌++◌, refl, sym, ap, ap₂, ◌∙◌, arith, drop, length, append_assoc, count_by, length-append}
+use Rattle.std.specs.Prelude.{Option, None}
 use Rattle.std.proofs.lemmas.List.{take_at, drop_at, length_push}
 use Rattle.std.proofs.lemmas.List.Sums.{sum_by-append, sum_by-cons}
 use Rattle.ann_types.specs.Index.{Index}
-use Rattle.ann_types.specs.Fold.{fold_of}
 use Rattle.ann_types.specs.Legal.{IsLegal}
 use Rattle.ann_types.specs.Lists.{BasedList, Names, names_of, makes_point, next_pid, live_after, live_from, live_of}
 use Rattle.ann_types.specs.declared.entry.Entry.{Entry}
 use Rattle.ann_types.specs.declared.entry.Entry.TheVariants.{Begin, End}
 use Rattle.ann_types.proofs.Folds.{live_append}
-use Rattle.ann_laws.specs.Replays.{HasMerge, with_only, rebased}
+use Rattle.ann_laws.specs.Replays.{with_only}
 use Rattle.ann_laws.proofs.Replayed.{merged_names}
 use Rattle.ann_reopen.specs.Gone.{gone_from, gone_of}
 use Rattle.ann_reopen.specs.Judged.{IsLastMerge}

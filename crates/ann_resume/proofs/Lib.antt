@@ -1,3 +1,4 @@
 pub mod Cutting
 pub mod Applying
 pub mod Resuming
+pub mod Removing

@@ -1,7 +1,6 @@
 -- When an entry may be applied to a view that stands for a list, and what it makes of it.
-use Rattle.std.specs.Prelude.{◌≡◌, ℕ, Bool, true, false, not, List, Option, Some, None, IsSome}
+use Rattle.std.specs.Prelude.{◌≡◌, ℕ, true, false, not, List, Option, Some, IsSome}
 use Rattle.std.specs.List.{list_all}
-use Rattle.ann_types.specs.Fold.{fold_of}
 use Rattle.ann_types.specs.Legal.{IsLegal}
 use Rattle.ann_types.specs.Lists.{BasedList, next_pid, live_of, with_entry, with_entries}
 use Rattle.ann_types.specs.declared.entry.Entry.{Entry}
@@ -12,7 +11,7 @@ use Rattle.ann_reopen.specs.Gone.{gone_by, gone_from}
 use Rattle.ann_view.specs.Stands.{StandsFor}
 use Rattle.ann_view.specs.View.{IndexView, index_of}
 use Rattle.ann_view.specs.declared.op.Op.{Op}
-use Rattle.ann_view.specs.declared.op.Op.TheVariants.{Insert, Delete, Replace, Begin, End, Close}
+use Rattle.ann_view.specs.declared.op.Op.TheVariants.{Insert, Delete, Replace, Begin}
 
 -- the view stands for a list that is legal with this entry, which is no End and deletes this Pid, if it deletes one
 pub record IsNext {S : Type 0} (view : IndexView S) (h : BasedList) (e : Entry) (gone : Option ℕ) : Type 0 where
@@ -30,19 +29,19 @@ pub record AreNext {S : Type 0} (view : IndexView S) (h : BasedList) (es : List 
 
 -- an entry that is no End, with the Pid that it deletes, if it deletes one
 abbrev pub CanMake : Entry → Option ℕ → Type 0
-CanMake (entry.Insert by tag vector) gone = Unit {0}
-CanMake (entry.Delete by tag) gone = IsSome gone
-CanMake (entry.Begin by) gone = Unit {0}
-CanMake (entry.End by segment) gone = ⊥
-CanMake (entry.Replace by tag vector) gone = IsSome gone
+CanMake (entry.Insert by tag vector) which = Unit {0}
+CanMake (entry.Delete by tag) which = IsSome which
+CanMake (entry.Begin by) which = Unit {0}
+CanMake (entry.End by segment) which = ⊥
+CanMake (entry.Replace by tag vector) which = IsSome which
 
 -- the operation of such an entry
 abbrev pub IsMadeOf : {S : Type 0} → Entry → Option ℕ → Op S → Type 0
-IsMadeOf (entry.Insert by tag vector) gone op = op ≡ Insert tag vector
-IsMadeOf (entry.Delete by tag) gone op = (pid : ℕ) × (gone ≡ Some pid) × (op ≡ Delete pid)
-IsMadeOf (entry.Begin by) gone op = op ≡ Begin
-IsMadeOf (entry.End by segment) gone op = ⊥
-IsMadeOf (entry.Replace by tag vector) gone op = (pid : ℕ) × (gone ≡ Some pid) × (op ≡ Replace tag pid vector)
+IsMadeOf (entry.Insert by tag vector) which op = op ≡ Insert tag vector
+IsMadeOf (entry.Delete by tag) which op = (pid : ℕ) × (which ≡ Some pid) × (op ≡ Delete pid)
+IsMadeOf (entry.Begin by) which op = op ≡ Begin
+IsMadeOf (entry.End by segment) which op = ⊥
+IsMadeOf (entry.Replace by tag vector) which op = (pid : ℕ) × (which ≡ Some pid) × (op ≡ Replace tag pid vector)
 
 -- the index, the segment and whether it is closed stay
 pub record IsSameIndex {S : Type 0} (old new : IndexView S) : Type 0 where

@@ -1,5 +1,5 @@
 -- What is left of a list behind the Begin of its last merge.
-use Rattle.std.specs.Prelude.{◌≡◌, ◌≤◌, ◌<◌, ◌+◌, ◌-◌, ℕ, List, ◌++◌, Option, take, drop}
+use Rattle.std.specs.Prelude.{◌≡◌, ◌≤◌, ◌<◌, ◌+◌, ℕ, List, ◌++◌, Option, take, drop}
 use Rattle.ann_types.specs.Index.{Index}
 use Rattle.ann_types.specs.Legal.{IsLegal}
 use Rattle.ann_types.specs.Lists.{BasedList}

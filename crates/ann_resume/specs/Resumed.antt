@@ -1,5 +1,5 @@
 -- The view of a list, from its base on.
-use Rattle.std.specs.Prelude.{◌≡◌, ◌<◌, ℕ, Bool, true, false, not, List, Option, Some, None, All}
+use Rattle.std.specs.Prelude.{◌≡◌, ◌<◌, ℕ, true, false, not, List, Option, Some, None, All}
 use Rattle.std.specs.List.{list_all}
 use Rattle.ann_types.specs.Codes.{Book}
 use Rattle.ann_types.specs.Graph.{Graph, empty_graph}
@@ -15,7 +15,7 @@ use Rattle.ann_segment.specs.Directory.{Item}
 use Rattle.ann_segment.specs.Holds.{Holds}
 use Rattle.ann_segment.specs.Segment.{SegmentView}
 use Rattle.ann_view.specs.View.{IndexView, opening}
-use Rattle.ann_resume.specs.declared.resume.Start.{Start}
+use Rattle.ann_resume.specs.declared.view.Start.{Start}
 
 -- the position and the next Pid of a base, and its segment; without one it is the empty base
 abbrev pub position_of : {S : Type 0} → Option (Start S) → ℕ

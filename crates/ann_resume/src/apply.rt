@@ -1,5 +1,5 @@
 // Applying entries to a view.
-ghost use Rattle.std.specs.Prelude.{◌≡◌, ◌<◌, ◌+◌, ◌^◌, length, IfOk, OnOk};
+ghost use Rattle.std.specs.Prelude.{◌≡◌, ◌<◌, ◌+◌, ◌^◌, false, length, IfOk, OnOk};
 ghost use Rattle.ann_types.specs.Lists.{BasedList, with_entry, with_entries};
 ghost use Rattle.ann_view.specs.Stands.{StandsFor, lti_of};
 ghost use Rattle.ann_view.specs.Holding.{HoldsGraph};

@@ -10,12 +10,7 @@ use ann_types::{Entry, Pid};
 
 /// Leaves of a list's entries those behind the Begin of its last merge, without that merge's End, and of the Pids that the
 /// entries delete those of these entries. The list's base stands at this position. Takes no memory.
-pub fn cut_tail(
-    position: u64,
-    merge: &Merge,
-    entries: &mut Vec<Entry>,
-    gone: &mut Vec<Option<Pid>>,
-)
+pub fn cut_tail(position: u64, merge: &Merge, entries: &mut Vec<Entry>, gone: &mut Vec<Option<Pid>>)
     requires merge { StandsIn position merge.now (vec_len entries.old) }
     requires many { vec_len gone.old ≡ vec_len entries.old }
     ensures { (index : Index) (h : BasedList) → (last : IsLastMerge h merge.now) →

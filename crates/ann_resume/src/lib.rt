@@ -9,9 +9,9 @@ mod apply;
 mod cut;
 mod refused;
 mod remove;
-mod resume;
+mod view;
 
 pub use cut::cut_tail;
 pub use refused::RemoveRefused;
 pub use remove::remove_others;
-pub use resume::{Start, resume};
+pub use view::{Start, resume};
