@@ -14,17 +14,17 @@ use Rattle.ann_laws.specs.Outlines.{Opening, Outline, opening_of}
 use Rattle.ann_laws.specs.Replays.{with_only}
 use Rattle.ann_reopen.specs.Judged.{IsListOn, IsFirstIllegal, IsJudged}
 use Rattle.ann_reopen.specs.Reading.{ReadingView, IsReadBy, start_of}
-use Rattle.ann_reopen.specs.declared.ground.Ground.{Ground}
+use Rattle.ann_reopen.specs.declared.basis.Basis.{Basis}
 use Rattle.ann_reopen.specs.declared.judged.Judged.{Judged}
 use Rattle.ann_reopen.specs.declared.judged.Merge.{Merge}
 use Rattle.ann_reopen.proofs.Knowing.{Knows, LastIs, knows_none}
 
 -- ---- no entry yet
 
-pub knows_start : (index : Index) (params : Params) (ground : Ground) (all : List Entry) (h : BasedList) (r : ReadingView) → IsListOn index params ground all h → r ≡ start_of params ground → Knows index (with_only h (take 0 all)) r
-knows_start index params ground all h r on is =
+pub knows_start : (index : Index) (params : Params) (basis : Basis) (all : List Entry) (h : BasedList) (r : ReadingView) → IsListOn index params basis all h → r ≡ start_of params basis → Knows index (with_only h (take 0 all)) r
+knows_start index params basis all h r on is =
     subst (Knows index (with_only h [])) (sym is)
-    (knows_none index h (start_of params ground) (subst (λ (p : Params). IsBaseOf p h.base) (sym on.same) on.base) (sym on.same) (sym on.position) refl on.tags (sym on.next) refl refl)
+    (knows_none index h (start_of params basis) (subst (λ (p : Params). IsBaseOf p h.base) (sym on.same) on.base) (sym on.same) (sym on.position) refl on.tags (sym on.next) refl refl)
 
 -- ---- one more
 

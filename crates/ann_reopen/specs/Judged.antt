@@ -11,19 +11,19 @@ use Rattle.ann_types.specs.declared.entry.Entry.{Entry}
 use Rattle.ann_laws.specs.Replays.{is_end, HasMerge, with_only}
 use Rattle.ann_tags.specs.Tags.{map_of}
 use Rattle.ann_reopen.specs.Gone.{gone_of}
-use Rattle.ann_reopen.specs.declared.ground.Ground.{Ground}
+use Rattle.ann_reopen.specs.declared.basis.Basis.{Basis}
 use Rattle.ann_reopen.specs.declared.judged.Merge.{Merge}
 use Rattle.ann_reopen.specs.declared.judged.Judged.{Judged}
 use Rattle.ann_reopen.specs.declared.judged.JudgeRefused.{JudgeRefused}
 use Rattle.ann_reopen.specs.declared.judged.JudgeRefused.TheVariants.{BadLog, Memory}
 
 -- a list of an index has these entries, on a base of which this is known
-pub record IsListOn (index : Index) (params : Params) (ground : Ground) (all : List Entry) (h : BasedList) : Type 0 where
+pub record IsListOn (index : Index) (params : Params) (basis : Basis) (all : List Entry) (h : BasedList) : Type 0 where
   pub same : index.params ≡ params
   pub base : IsBaseOf params h.base
-  pub position : h.base.position ≡ ground.position
-  pub next : h.base.next ≡ ground.next
-  pub tags : ground.tags.pids ≡ map_of (names_of h.base.graph.points)
+  pub position : h.base.position ≡ basis.position
+  pub next : h.base.next ≡ basis.next
+  pub tags : basis.tags.pids ≡ map_of (names_of h.base.graph.points)
   pub entries : h.entries ≡ all
 
 -- the last merge of a list that ended

@@ -11,7 +11,7 @@ use Rattle.ann_laws.specs.Outlines.{Opening, Outline, outline_start, outline_ste
 use Rattle.ann_tags.specs.Tags.{Pids}
 use Rattle.ann_reopen.specs.Shape.{drawn}
 use Rattle.ann_reopen.specs.Gone.{gone_by}
-use Rattle.ann_reopen.specs.declared.ground.Ground.{Ground}
+use Rattle.ann_reopen.specs.declared.basis.Basis.{Basis}
 use Rattle.ann_reopen.specs.declared.judged.Merge.{Merge}
 use Rattle.ann_reopen.specs.declared.judged.Judged.{Judged}
 use Rattle.ann_reopen.specs.declared.reading.Reading.{Reading}
@@ -41,14 +41,14 @@ reading_of r = record {
 }
 
 -- nothing was read
-abbrev pub start_of : Params → Ground → ReadingView
-start_of params ground = record {
+abbrev pub start_of : Params → Basis → ReadingView
+start_of params basis = record {
   params = params;
-  position = ground.position;
+  position = basis.position;
   outline = outline_start;
   before = 0;
-  pids = ground.tags.pids;
-  next = ground.next;
+  pids = basis.tags.pids;
+  next = basis.next;
   gone = [];
   merge = None;
 }

@@ -4,7 +4,7 @@ ghost use Rattle.ann_types.specs.Index.{Index};
 ghost use Rattle.ann_types.specs.Lists.{BasedList};
 ghost use Rattle.ann_reopen.specs.Judged.{IsListOn, IsVerdict};
 
-use crate::ground::Ground;
+use crate::basis::Basis;
 use crate::judged::{JudgeRefused, Judged};
 use crate::reading::Reading;
 use ann_types::{Entry, Params};
@@ -19,14 +19,14 @@ use std::alloc::Global;
 pub fn judge(
     alloc: Global,
     params: &Params,
-    ground: Ground,
+    basis: Basis,
     entries: &[Entry],
 ) -> Result<Judged, JudgeRefused>
-    requires { ground.position + length entries.now < 2 ^ 63 }
-    ensures { (index : Index) (h : BasedList) → IsListOn index params.now ground entries.now h →
+    requires { basis.position + length entries.now < 2 ^ 63 }
+    ensures { (index : Index) (h : BasedList) → IsListOn index params.now basis entries.now h →
         IsVerdict index h result }
 {
-    let mut reading = Reading::new(alloc, params, ground);
+    let mut reading = Reading::new(alloc, params, basis);
     for entry in entries {
         if !reading.may_come(entry) {
             return Err(JudgeRefused::BadLog {

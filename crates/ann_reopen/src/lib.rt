@@ -6,12 +6,12 @@
 //! last merge that ended, and the Pid that each entry deletes.
 #![tactic(auto)]
 
-mod ground;
+mod basis;
 mod judged;
 mod judging;
 mod reading;
 mod shape;
 
-pub use ground::Ground;
+pub use basis::Basis;
 pub use judged::{JudgeRefused, Judged, Merge};
 pub use judging::judge;

@@ -9,7 +9,7 @@ ghost use Rattle.ann_tags.specs.Tags.{map_of};
 ghost use Rattle.ann_reopen.specs.Shape.{drawn};
 ghost use Rattle.ann_reopen.specs.Reading.{reading_of, start_of, after, HasRoom, MayTake, IsReadBy};
 
-use crate::ground::Ground;
+use crate::basis::Basis;
 use crate::judged::{Judged, Merge};
 use crate::shape::Shape;
 use ann_tags::Tags;
@@ -33,16 +33,16 @@ pub(crate) struct Reading {
 
 impl Reading {
     /// No entry was read yet.
-    pub(crate) fn new(alloc: Global, params: &Params, ground: Ground) -> Reading
-        ensures { reading_of result ≡ start_of params.now ground }
+    pub(crate) fn new(alloc: Global, params: &Params, basis: Basis) -> Reading
+        ensures { reading_of result ≡ start_of params.now basis }
     {
         Reading {
             params: *params,
-            position: ground.position,
+            position: basis.position,
             shape: Shape::new(),
             before: 0,
-            tags: ground.tags,
-            next: ground.next,
+            tags: basis.tags,
+            next: basis.next,
             gone: Vec::new(alloc),
             merge: None,
         }

@@ -11,7 +11,7 @@ use Rattle.ann_reopen.proofs.judging.judge.Goals as goal
 
 pub loop-entry-init : goal.loop-entry-init
 loop-entry-init c = record {
-  knows = λ index h on. knows_start index c.args.params.now c.args.ground c.args.entries.now h (reading_of c.new-reading.result) on c.new-reading.ensures;
+  knows = λ index h on. knows_start index c.args.params.now c.args.basis c.args.entries.now h (reading_of c.new-reading.result) on c.new-reading.ensures;
   position = (let at = ap (λ (x : ReadingView). x.position) c.new-reading.ensures in omega (arith, at));
   points = (let rw = ap (λ (x : ReadingView). x.outline.rw) c.new-reading.ensures in omega (arith, rw));
   graphs = (let ros = ap (λ (x : ReadingView). x.outline.ros) c.new-reading.ensures in omega (arith, ros));

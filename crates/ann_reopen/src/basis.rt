@@ -3,7 +3,7 @@ use ann_types::Pid;
 
 /// What the entries of a log stand on, without the graph of the base.
 #[derive(Drop)]
-pub struct Ground {
+pub struct Basis {
     /// The position of the first entry.
     pub position: u64,
     /// The Pid of the next point.

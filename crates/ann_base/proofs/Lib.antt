@@ -1,0 +1,4 @@
+pub mod Fronts
+pub mod Tagging
+pub mod Reading
+pub mod Grounding
