@@ -1,0 +1,10 @@
+pub mod Gone
+pub mod Held
+pub mod Listed
+pub mod Loads
+pub mod Parts
+pub mod Phase
+pub mod Pieces
+pub mod Points
+pub mod Repairs
+pub mod Vectors
