@@ -43,7 +43,10 @@ high_in params number next block bytes segment sized is high = record {
 
 -- ---- the text of a graph is opened as the graph
 
-point_pid : (book : Book) (points : List Point) (row : ℕ) (d : Point) → row < length points → (item_of (map (λ (x : Point). (x.pid, code book x.vector)) points) row).0 ≡ (get_or points row d).pid
+abbrev items_of : Book → List Point → List Item
+items_of book points = map (λ (x : Point). (x.pid, code book x.vector)) points
+
+point_pid : (book : Book) (points : List Point) (row : ℕ) (d : Point) → row < length points → (item_of (items_of book points) row).0 ≡ (get_or points row d).pid
 point_pid book [] row d l = absurd (omega arith)
 point_pid book (x ∷ points) zero d l = refl
 point_pid book (x ∷ points) (suc row) d l = point_pid book points row d (omega arith)
@@ -67,7 +70,7 @@ module _ {S : Type 0} (tells : Type 0) (bytes : S → List ℕ) (held : Holding)
     no_text = λ book graph sealed below.
         let holds : Holds params book (bytes segment.seal) segment graph = found.graph told book graph sealed in
         let none : Point = record { pid = 0; tag = 0; vector = []; links = [] } in
-        let size : length segment.items ≡ length graph.points = ap length holds.items ∙ long book graph.points in
+        let size : length segment.items ≡ length graph.points = ap (λ (t : List Item). length t) holds.items ∙ long book graph.points in
         let within = high.within in
         let at : (item_of segment.items high.row).0 ≡ (get_or graph.points high.row none).pid = ap (λ (t : List Item). (item_of t high.row).0) holds.items ∙ point_pid book graph.points high.row none (omega arith) in
         let low = below high.row none (omega arith) in
@@ -75,6 +78,6 @@ module _ {S : Type 0} (tells : Type 0) (bytes : S → List ℕ) (held : Holding)
         absurd (omega arith);
   }
     where
-      long : (book : Book) (points : List Point) → length (map (λ (x : Point). (x.pid, code book x.vector)) points) ≡ length points
+      long : (book : Book) (points : List Point) → length (items_of book points) ≡ length points
       long book [] = refl
       long book (x ∷ points) = let rest = long book points in omega arith

@@ -24,12 +24,15 @@ use Rattle.ann_segment.specs.Holds.{Holds}
 use Rattle.ann_segment.specs.Segment.{SegmentView, IsSegment, IsEntryOf}
 use Rattle.ann_segment.specs.Rows.{node_in}
 use Rattle.ann_segment.specs.Text.{row_of}
-use Rattle.ann_segment.proofs.Holding.{no_point, point_at, names_back, below_mapped, has_row, holds_linked, holds_count, holds_row}
+use Rattle.ann_segment.proofs.Holding.{point_at, names_back, below_mapped, has_row, holds_linked, holds_count, holds_row}
 use Rattle.ann_base.specs.Faults.{AreBelow}
 use Rattle.ann_base.specs.Grounded.{base_over}
 use Rattle.ann_base.specs.Nodes.{AreNodes, no_node, pid_of, point_in, points_from, graph_in, tags_of, named}
 use Rattle.ann_base.specs.Tagged.{AreDistinct}
 use Rattle.ann_base.proofs.Tagging.{item_pid}
+
+abbrev blank : Point
+blank = record { pid = 0; tag = 0; vector = []; links = [] }
 
 -- ---- lists
 
@@ -150,11 +153,11 @@ module _ {S : Type 0} (segment : SegmentView S) (params : Params) (nodes : List 
   }
 
   entry_is : (o : Option ℕ) → IsEntryOf (length segment.items) o → IsEntry points (option_map (pid_of segment) o)
-  entry_is None none = no_points points (long ∙ none)
+  entry_is None none = blanks points (long ∙ none)
     where
-      no_points : (xs : List Point) → length xs ≡ 0 → xs ≡ []
-      no_points [] e = refl
-      no_points (x ∷ xs) e = absurd (omega arith)
+      blanks : (xs : List Point) → length xs ≡ 0 → xs ≡ []
+      blanks [] e = refl
+      blanks (x ∷ xs) e = absurd (omega arith)
   entry_is (Some row) l = there row l
 
   pub graph_sound : IsGraphOf params (graph_in segment nodes)
@@ -203,7 +206,7 @@ module _ {S : Type 0} (params : Params) (book : Book) (bytes : List ℕ) (segmen
   held_pid : (row : ℕ) → row < length graph.points → pid_of segment row ≡ pid_at graph.points row
   held_pid row l =
       ap (λ (x : Item). x.0) (holds_row params book bytes segment graph h parts row (let size = count in omega arith)).item
-      ∙ sym (pid_of_at graph.points row no_point l)
+      ∙ sym (pid_of_at graph.points row blank l)
 
   held_point : (row : ℕ) → row < length graph.points → point_in segment row (get_or nodes row no_node) ≡ point_at graph row
   held_point row l =
@@ -223,9 +226,9 @@ module _ {S : Type 0} (params : Params) (book : Book) (bytes : List ℕ) (segmen
   points_back : points_from segment 0 nodes ≡ graph.points
   points_back =
       let size = count in
-      fill_by_all (point_at graph) (points_from segment 0 nodes) (length graph.points) no_point (length-points segment 0 nodes ∙ all ∙ size)
-      (λ k l. get_point segment 0 nodes k no_point (omega arith) ∙ ap (λ (r : ℕ). point_in segment r (get_or nodes k no_node)) (let e : 0 + k ≡ k = omega arith in e) ∙ held_point k l)
-      ∙ sym (fill_by_all (point_at graph) graph.points (length graph.points) no_point refl (λ k l. refl))
+      fill_by_all (point_at graph) (points_from segment 0 nodes) (length graph.points) blank (length-points segment 0 nodes ∙ all ∙ size)
+      (λ k l. get_point segment 0 nodes k blank (omega arith) ∙ ap (λ (r : ℕ). point_in segment r (get_or nodes k no_node)) (let e : 0 + k ≡ k = omega arith in e) ∙ held_point k l)
+      ∙ sym (fill_by_all (point_at graph) graph.points (length graph.points) blank refl (λ k l. refl))
 
   entry_back : (o : Option ℕ) → IsEntry graph.points o → option_map (pid_of segment) (option_map (row_of graph.points) o) ≡ o
   entry_back None e = refl

@@ -17,10 +17,10 @@ abbrev pub AreDistinct : List ℕ → Type 0
 AreDistinct tags = (row : ℕ) → row < length tags → has (take row tags) (get_or tags row 0) ≡ false
 
 -- a map has the tags of the first rows, which differ
-pub record HasTags {S : Type 0} (segment : SegmentView S) (tags : List ℕ) (pids : Pids) : Type 0 where
+pub record HasTags {S : Type 0} (segment : SegmentView S) (tags : List ℕ) (found : Pids) : Type 0 where
   pub few : length tags ≤ length segment.items
   pub differ : AreDistinct tags
-  pub pids : pids ≡ map_of (named segment tags)
+  pub pids : found ≡ map_of (named segment tags)
 
 -- one of further tags is the first that stands before it; this names its block
 pub record IsRepeatOf {S : Type 0} (segment : SegmentView S) (tags more : List ℕ) (block : ℕ) : Type 0 where
@@ -43,11 +43,15 @@ pub record HasNodes {S : Type 0} (tells : Type 0) (bytes : S → List ℕ) (segm
   pub told : tells → nodes ≡ map (node_in segment (bytes segment.seal) params.d) (range_with_len 0 (length nodes))
   pub formed : tells → (row : ℕ) → row < length nodes → IsFormed segment params (bytes segment.seal) row
 
--- all rows' nodes, and their tags
-pub record HasAll {S : Type 0} (tells : Type 0) (bytes : S → List ℕ) (segment : SegmentView S) (params : Params) (pids : Pids) : Type 0 where
+-- the nodes of so many rows, and their tags
+pub record HasFirst {S : Type 0} (tells : Type 0) (bytes : S → List ℕ) (segment : SegmentView S) (params : Params) (n : ℕ) (pids : Pids) : Type 0 where
   pub nodes : List NodeFields
-  pub all : length nodes ≡ length segment.items
+  pub many : length nodes ≡ n
   pub are : HasNodes tells bytes segment params nodes pids
+
+-- the nodes of all rows, and their tags
+abbrev pub HasAll : {S : Type 0} → Type 0 → (S → List ℕ) → SegmentView S → Params → Pids → Type 0
+HasAll tells bytes segment params pids = HasFirst tells bytes segment params (length segment.items) pids
 
 -- further nodes stand behind these
 pub record HasMore {S : Type 0} (tells : Type 0) (bytes : S → List ℕ) (segment : SegmentView S) (params : Params) (nodes : List NodeFields) (count : ℕ) (pids : Pids) : Type 0 where

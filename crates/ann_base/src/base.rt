@@ -50,6 +50,7 @@ pub fn open_base<V: Vault, E: Eye<Seal = V::Seal>>(
         });
     }
     let segment = open_below(alloc, vault, eye, params, number, next)?;
+    segment.known();
     let tags = load_tags(alloc, &segment, eye, params)?;
     Ok(Grounded {
         tags,

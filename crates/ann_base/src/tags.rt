@@ -1,5 +1,5 @@
 // Loading the tags of a segment's points.
-ghost use Rattle.std.specs.Prelude.{◌≡◌, ◌<◌, ◌≤◌, ◌%◌, ◌+◌, ◌++◌, ℕ, List, length, IfOk, IfErr, OnOk};
+ghost use Rattle.std.specs.Prelude.{◌≡◌, ◌<◌, ◌≤◌, ◌%◌, ◌+◌, ◌^◌, ◌++◌, ℕ, List, length, IfOk, IfErr, OnOk};
 ghost use Rattle.ann_vault.specs.Counted.{CountsFault};
 ghost use Rattle.ann_block.specs.Node.{NodeFields};
 ghost use Rattle.ann_mdelete.specs.Loaded.{piece_rows};
@@ -49,6 +49,7 @@ fn add_piece<S: Sealed, E: Eye<Seal = S>>(
 ) -> Result<(), BaseRefused>
     requires piece { first % 256 ≡ 0 }
     requires first { first < length segment.now.items }
+    requires few { length segment.now.items < 2 ^ 32 }
     ensures added { (nodes : List NodeFields) → length nodes ≡ first →
         HasNodes S.tells S.bytes segment.now params.now nodes tags.old.pids →
         let count = piece_rows (length segment.now.items) first in
@@ -71,6 +72,7 @@ fn add_tags<S: Sealed>(
     tags: &mut Tags,
 ) -> Result<(), BaseRefused>
     requires rows { first + length piece.now.tags ≤ length segment.now.items }
+    requires few { length segment.now.items < 2 ^ 32 }
     requires many { length piece.now.tags ≡ length piece.now.lists }
     requires room { length piece.now.tags ≤ tags.old.spare }
     ensures added { (before : List ℕ) → length before ≡ first → HasTags segment.now before tags.old.pids →
