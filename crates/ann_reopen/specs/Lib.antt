@@ -1,0 +1,4 @@
+pub mod Shape
+pub mod Gone
+pub mod Reading
+pub mod Judged

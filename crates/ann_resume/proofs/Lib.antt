@@ -1,0 +1,4 @@
+pub mod Cutting
+pub mod Applying
+pub mod Resuming
+pub mod Removing
