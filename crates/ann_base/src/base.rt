@@ -37,11 +37,13 @@ pub fn open_base<V: Vault, E: Eye<Seal = V::Seal>>(
     number: u64,
     next: Pid,
 ) -> Result<Grounded<V::Seal>, BaseRefused>
-    ensures opened { IfOk result (IsBase V.Seal.tells V.Seal.bytes (V.held vault.old) params.now number next) }
+    ensures opened { IfOk result (
+        IsBase V.Seal.tells V.Seal.bytes (V.held vault.old) params.now number next) }
     ensures refused { V.Seal.tells → IfErr result (IsBaseRefused (V.held vault.old) params.now number next) }
     ensures same { V.Seal.tells → V.held vault.new ≡ V.held vault.old }
     ensures cause { AreCounted BaseRefused.Disk result
-        (counts_of (V.faults vault.old) (E.faults eye.old)) (counts_of (V.faults vault.new) (E.faults eye.new)) }
+        (counts_of (V.faults vault.old) (E.faults eye.old))
+        (counts_of (V.faults vault.new) (E.faults eye.new)) }
 {
     if number == 0 {
         return Ok(Grounded {

@@ -25,11 +25,13 @@ pub fn open_below<V: Vault, E: Eye<Seal = V::Seal>>(
     number: u64,
     next: Pid,
 ) -> Result<Segment<V::Seal>, BaseRefused>
-    ensures opened { IfOk result (IsOpenedBelow V.Seal.tells V.Seal.bytes (V.held vault.old) params.now number next) }
+    ensures opened { IfOk result (
+        IsOpenedBelow V.Seal.tells V.Seal.bytes (V.held vault.old) params.now number next) }
     ensures refused { V.Seal.tells → IfErr result (IsFrontRefused (V.held vault.old) params.now number next) }
     ensures same { V.Seal.tells → V.held vault.new ≡ V.held vault.old }
     ensures cause { AreCounted BaseRefused.Disk result
-        (counts_of (V.faults vault.old) (E.faults eye.old)) (counts_of (V.faults vault.new) (E.faults eye.new)) }
+        (counts_of (V.faults vault.old) (E.faults eye.old))
+        (counts_of (V.faults vault.new) (E.faults eye.new)) }
 {
     let segment = open_segment(alloc, vault, eye, params, number)?;
     match first_high(&segment, params, next) {
@@ -50,7 +52,8 @@ fn open_segment<V: Vault, E: Eye<Seal = V::Seal>>(
     ensures refused { V.Seal.tells → IfErr result (IsUnfound (V.held vault.old) params.now number) }
     ensures same { V.Seal.tells → V.held vault.new ≡ V.held vault.old }
     ensures cause { AreCounted BaseRefused.Disk result
-        (counts_of (V.faults vault.old) (E.faults eye.old)) (counts_of (V.faults vault.new) (E.faults eye.new)) }
+        (counts_of (V.faults vault.old) (E.faults eye.old))
+        (counts_of (V.faults vault.new) (E.faults eye.new)) }
 {
     let Some(seal) = vault.open(number)? else {
         return Err(BaseRefused::BadSegment { block: 0 });

@@ -14,7 +14,8 @@ pub fn cut_tail(position: u64, merge: &Merge, entries: &mut Vec<Entry>, gone: &m
     requires merge { StandsIn position merge.now (vec_len entries.old) }
     requires many { vec_len gone.old ≡ vec_len entries.old }
     ensures { (index : Index) (h : BasedList) → (last : IsLastMerge h merge.now) →
-        IsTailOf index position h merge.now last entries.old.items gone.old.items entries.new.items gone.new.items }
+        IsTailOf index position h merge.now last
+        entries.old.items gone.old.items entries.new.items gone.new.items }
 {
     let begin = (merge.position - position) as usize;
     let end = (merge.end - position) as usize;
