@@ -9,6 +9,8 @@ mod beam;
 #[cfg(test)]
 mod collect;
 #[cfg(test)]
+mod patched;
+#[cfg(test)]
 mod pieces;
 #[cfg(test)]
 mod points;
