@@ -22,12 +22,14 @@ def built_beside(folder, line, *words):
     name = line.split(":")[0]
     there = os.path.join(folder, "repository")
     crate = os.path.join(there, "crates", name)
-    if not os.path.exists(crate):
+    if not os.path.exists(there):
         left_out = shutil.ignore_patterns("out")
         shutil.copytree(os.path.join(TOP, "crates"), os.path.join(there, "crates"), ignore=left_out)
-        shutil.copy(os.path.join(TOP, "HANDLES"), there)
-        with open(os.path.join(there, "crates.txt"), "w") as out:
-            out.write(open(os.path.join(TOP, "crates.txt")).read() + line + "\n")
+        for file in ("HANDLES", "crates.txt"):
+            shutil.copy(os.path.join(TOP, file), there)
+    if not os.path.exists(crate):
+        with open(os.path.join(there, "crates.txt"), "a") as out:
+            out.write(line + "\n")
         shutil.copytree(os.path.join(BENCH, name), crate)
         for path, _, names in os.walk(crate):
             for source in names:
