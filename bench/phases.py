@@ -5,7 +5,7 @@
 
 FOLDER takes the vectors (by sift/make.sh, where they aren't there yet), a codebook of 32 parts (by tools/codebook.py) and the
 programs. The index is `ann_phases`, which is made in FOLDER/repository beside a copy of the crates, and proved before it is built.
-POINTS and NEW are hundreds. Each figure is the least of three turns, in processor time of one thread, and the lists of both sides
+POINTS and NEW are multiples of a hundred. Each figure is the least of three turns, in processor time of one thread, and the lists of both sides
 are the same. It needs what sift/compare.py and tools/codebook.py need.
 """
 import os
