@@ -1,4 +1,4 @@
-//! Tests of the merge, phase by phase: the workers, and the Delete, Insert and Patch phases.
+//! Tests of the merge, phase by phase: the workers, the Delete, Insert and Patch phases, and what stands between them.
 //!
 //! They stand in a crate of their own, since a check of a crate's tests proves the whole crate once more.
 #![tactic(auto)]
@@ -9,6 +9,8 @@ mod crew;
 mod insert;
 #[cfg(test)]
 mod patch;
+#[cfg(test)]
+mod plan;
 #[cfg(test)]
 mod repair;
 #[cfg(test)]
