@@ -1,0 +1,9 @@
+pub mod Fronts
+pub mod Counts
+pub mod Joins
+pub mod Widths
+pub mod ReadLists
+pub mod Refusals
+pub mod Lefts
+pub mod Bases
+pub mod Plans
