@@ -1,0 +1,7 @@
+pub mod Items
+pub mod Headed
+pub mod Windows
+pub mod Steps
+pub mod Refusals
+pub mod Texts
+pub mod Writings

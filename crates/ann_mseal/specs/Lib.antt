@@ -1,0 +1,4 @@
+pub mod Merged
+pub mod Pieces
+pub mod Written
+pub mod Ends
