@@ -1,0 +1,6 @@
+use Rattle.std.proofs.Common.{ℕ, ◌<◌, ◌+◌, slice_index}
+use Rattle.ann_job_tests.proofs.pids.rises.Given as goal
+
+-- the numbers so far rise
+abbrev pub invariant-loop-i : goal.invariant-loop-i
+invariant-loop-i l = (k : ℕ) → k + 1 < l.i → slice_index l.list k < slice_index l.list (k + 1)

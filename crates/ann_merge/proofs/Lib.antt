@@ -1,0 +1,7 @@
+pub mod Gathered
+pub mod Pids
+pub mod Planned
+pub mod Eyes
+pub mod Numbers
+pub mod Attempts
+pub mod Sound
