@@ -1,0 +1,14 @@
+pub mod Results
+pub mod Counting
+pub mod Moved
+pub mod Loading
+pub mod Tails
+pub mod Renewals
+pub mod Reviving
+pub mod Opening
+pub mod Ends
+pub mod Keeping
+pub mod Sounding
+pub mod Saying
+pub mod Placing
+pub mod Summing

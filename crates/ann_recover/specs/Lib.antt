@@ -1,0 +1,10 @@
+pub mod Refusal
+pub mod Causes
+pub mod Fresh
+pub mod Loaded
+pub mod Renewal
+pub mod Settled
+pub mod Recovered
+pub mod Places
+pub mod Verified
+pub mod Inspected

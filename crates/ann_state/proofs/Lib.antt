@@ -1,0 +1,4 @@
+pub mod Marks
+pub mod Grounds
+pub mod Starts
+pub mod States

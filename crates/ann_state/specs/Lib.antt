@@ -1,0 +1,5 @@
+pub mod Refusal
+pub mod List
+pub mod Merged
+pub mod Start
+pub mod State
