@@ -233,6 +233,16 @@ const LINES: &[&str] = &[
     "once 02 2 4 1/1",
     "once +2 2 4 1/1",
     "once 2 2 4 1/1/1",
+    "init 2 2 4 1/1",
+    "init 2 2 4 1/1 1 1 0",
+    "init 2 2 4 1/1 1 1 100001",
+    "init 2 2 4 1/1 0 1 9",
+    "init 2 2 4 1/1 17 1 9",
+    "init 2 2 4 1/1 1 0 9",
+    "init 2 2 4 1/2 1 1 9",
+    "init 3 2 4 1/1 1 2 9",
+    "init 2 2 4 1/1 1 1 9 9",
+    "check 1",
 ];
 
 /// The first of these lines that ends otherwise than with the usage.
@@ -248,6 +258,130 @@ fn wrong_line(alloc: Global) -> Result<Option<usize>, AllocError> {
 #[test]
 fn tells_the_usage(rt: HostRuntime) -> Result<(), Fail> {
     assert_eq!(rt; wrong_line(rt.alloc())?, None);
+    Ok(())
+}
+
+/// A codebook at fault, the read that fails, what `init` writes over it in an empty place, and the status.
+const BOOKS: &[(&str, u64, &str, u8)] = &[
+    ("", 0, "bad codebook length\n", 11),
+    ("ANNPQ001\x01\0\x01", 0, "bad codebook length\n", 11),
+    ("ANNPQ002\x01\0\x01\0", 0, "bad codebook magic\n", 11),
+    ("ANNPQ001\x02\0\x01\0", 0, "bad codebook shape\n", 11),
+    ("ANNPQ001\x01\0\x02\0", 0, "bad codebook shape\n", 11),
+    ("ANNPQ001\x01\0\x01\0", 0, "bad codebook length\n", 11),
+    ("ANNPQ002\x01\0\x01\0", 2, "read fault\n", 4),
+];
+
+/// The first of these that ends otherwise.
+fn wrong_book(alloc: Global) -> Result<Option<usize>, AllocError> {
+    for (row, &(book, read, text, status)) in BOOKS.iter().enumerate() {
+        if !ends_so(
+            alloc,
+            "init 1 2 4 1/1 1 1 9",
+            book,
+            (read, 0),
+            (status, text),
+        )? {
+            return Ok(Some(row));
+        }
+    }
+    Ok(None)
+}
+
+#[test]
+fn tells_a_bad_codebook(rt: HostRuntime) -> Result<(), Fail> {
+    assert_eq!(rt; wrong_book(rt.alloc())?, None);
+    Ok(())
+}
+
+/// A codebook of vectors of one component, with 256 centroids at 0.
+fn book(alloc: Global) -> Result<Vec<u8>, AllocError> {
+    let mut bytes = Vec::new(alloc);
+    bytes.extend_from_slice(b"ANNPQ001\x01\0\x01\0")?;
+    bytes.resize(268, 0)?;
+    Ok(bytes)
+}
+
+/// The status and the text of a command of these words over a place, where it reads that codebook.
+fn ends_with(
+    alloc: Global,
+    words: &[String],
+    place: &mut Memory,
+) -> Result<(u8, MemorySink), AllocError>
+    requires words { AreAlone (map string_bytes words.now) }
+    requires place { IsWhole place.old }
+    ensures { IsWhole place.new }
+{
+    let bytes = book(alloc)?;
+    let mut input = MemorySource::new(alloc, &bytes, &[])?;
+    let mut out = MemorySink::new(alloc, 5, &[])?;
+    let status = run_alone(alloc, words, &mut input, &mut out, place);
+    Ok((status, out))
+}
+
+/// Whether the command of these words makes an index in an empty place, and refuses the one that is there then.
+fn makes_one(alloc: Global, words: &[String]) -> Result<bool, AllocError>
+    requires { AreAlone (map string_bytes words.now) }
+{
+    let mut place = empty_place(alloc)?;
+    let (first, made) = ends_with(alloc, words, &mut place)?;
+    let (second, refused) = ends_with(alloc, words, &mut place)?;
+    Ok(
+        first == 0
+            && made.bytes() == "made\n".as_bytes()
+            && second == 10
+            && refused.bytes() == "index exists\n".as_bytes(),
+    )
+}
+
+/// The same with the words of a line.
+fn makes_one_by(alloc: Global, line: &str) -> Result<bool, AllocError> {
+    let words = words_of(alloc, line)?;
+    if is_run(&words).is_some() || is_truth(&words) {
+        return Ok(false);
+    }
+    makes_one(alloc, &words)
+}
+
+#[test]
+fn makes_an_index_where_none_is(rt: HostRuntime) -> Result<(), Fail> {
+    assert!(rt; makes_one_by(rt.alloc(), "init 1 2 4 1/1 1 1 9")?);
+    Ok(())
+}
+
+/// Whether the second command gives 7 in an empty place and, where the first has made an index, tells its entries.
+fn checks_one(alloc: Global, made: &[String], check: &[String]) -> Result<bool, AllocError>
+    requires made { AreAlone (map string_bytes made.now) }
+    requires check { AreAlone (map string_bytes check.now) }
+{
+    let mut place = empty_place(alloc)?;
+    let (first, none) = ends_with(alloc, check, &mut place)?;
+    let (_, _) = ends_with(alloc, made, &mut place)?;
+    let (second, some) = ends_with(alloc, check, &mut place)?;
+    Ok(
+        first == 7
+            && none.bytes() == "no index\n".as_bytes()
+            && second == 0
+            && some.bytes() == "ok 0 entries, 0 live, segment none\n".as_bytes(),
+    )
+}
+
+/// The same with the words of two lines.
+fn checks_one_by(alloc: Global, made: &str, check: &str) -> Result<bool, AllocError> {
+    let made = words_of(alloc, made)?;
+    let check = words_of(alloc, check)?;
+    if is_run(&made).is_some() || is_truth(&made) {
+        return Ok(false);
+    }
+    if is_run(&check).is_some() || is_truth(&check) {
+        return Ok(false);
+    }
+    checks_one(alloc, &made, &check)
+}
+
+#[test]
+fn checks_an_index(rt: HostRuntime) -> Result<(), Fail> {
+    assert!(rt; checks_one_by(rt.alloc(), "init 1 2 4 1/1 1 1 9", "check")?);
     Ok(())
 }
 

@@ -1,6 +1,7 @@
 -- How what is owed follows from what happened.
-use Rattle.std.proofs.Common.{◌≡◌, ℕ, List, ap, subst, sym, inl, inr, arith}
-use Rattle.std.specs.Prelude.{Option, Err}
+use Rattle.std.proofs.Common.{◌≡◌, ℕ, List, ap, subst, sym, refl, inl, inr, arith}
+use Rattle.std.specs.Prelude.{Option, Ok, Err}
+use Rattle.ann_init.specs.declared.refused.InitWhy.TheVariants as why
 use Rattle.ann_script.specs.Reading.{Reads, ReadsAll, FindsFault, IsCut, BreaksOff, CountsReads}
 use Rattle.ann_script.specs.Script.{Client}
 use Rattle.ann_script.specs.declared.script_refused.ScriptRefused.{ScriptRefused}
@@ -8,16 +9,28 @@ use Rattle.ann_script.specs.declared.script_refused.ScriptRefused.TheVariants.{L
 use Rattle.ann_script.specs.declared.verbs.Rules.{Rules}
 use Rattle.ann_types.specs.declared.params.Params.{Params}
 use Rattle.ann_commands.specs.Counts.{CountsDue}
-use Rattle.ann_commands.specs.Status.{Outcome, Happens, LineFault, NoMemory, status_of}
+use Rattle.ann_commands.specs.Status.{Outcome, Happens, HappensAway, Served, Usage, LineFault, ReadFault, NoMemory, Init, Check, status_of}
 use Rattle.ann_commands.specs.Words.{IsOnce}
 use Rattle.ann_commands.specs.Owed.{IsOwed, IsDue, owed_status, owed_text}
+use Rattle.ann_commands.specs.Checked.{Devices}
+use Rattle.ann_commands.specs.declared.place.Place.{Place}
 use Rattle.ann_commands.specs.declared.owed.Owed.{Owed}
 use Rattle.ann_commands.specs.declared.owed.Owed.TheVariants as owed
 
+-- what happens without the place leaves it as it was
+pub away : {F V E S : Type 0} (D : Devices F V E S) (words : List (List ℕ)) (left left' : Option (List ℕ)) (place : Place F V E) (outcome : Outcome) → HappensAway words left left' outcome → Happens D words left left' place place outcome
+away D words left left' place (Served params script) happens = (happens, refl)
+away D words left left' place Usage happens = (happens, refl)
+away D words left left' place (LineFault number) happens = (happens, refl)
+away D words left left' place ReadFault happens = (happens, refl)
+away D words left left' place NoMemory happens = (happens, refl)
+away D words left left' place (Init ended) happens = absurd happens
+away D words left left' place (Check ended) happens = absurd happens
+
 -- what is due after something happened, or there was no memory
-pub owed_for : (words : List (List ℕ)) (left left' : Option (List ℕ)) (params : Params) (outcome : Outcome) (owed : Owed) → IsOnce words params → Happens words left left' outcome → BreaksOff left left' → IsDue owed outcome → IsOwed words left left' owed
-owed_for words left left' params outcome owed once happens breaks (inl none) = record { outcome = NoMemory; happens = (params, once, breaks); status_is = ap owed_status none; text_is = ap owed_text none }
-owed_for words left left' params outcome owed once happens breaks (inr due) = record { outcome = outcome; happens = happens; status_is = due.0; text_is = due.1 }
+pub owed_for : {F V E S : Type 0} (D : Devices F V E S) (words : List (List ℕ)) (left left' : Option (List ℕ)) (place : Place F V E) (params : Params) (outcome : Outcome) (owed : Owed) → IsOnce words params → HappensAway words left left' outcome → BreaksOff left left' → IsDue owed outcome → IsOwed D words left left' place place owed
+owed_for D words left left' place params outcome owed once happens breaks (inl none) = record { outcome = NoMemory; happens = ((params, once, breaks), refl); status_is = ap owed_status none; text_is = ap owed_text none }
+owed_for D words left left' place params outcome owed once happens breaks (inr due) = record { outcome = outcome; happens = away D words left left' place outcome happens; status_is = due.0; text_is = due.1 }
 
 -- what a refusal of a script says of the input
 pub finds_fault : (rules : Rules) (left left' : Option (List ℕ)) (refused : ScriptRefused) (number : ℕ) → Reads rules left left' (Err refused) → refused ≡ Line number → FindsFault rules left left' number
@@ -44,6 +57,17 @@ calm_due before now outcome (owed.Line text) due other calm = calm
 calm_due before now outcome owed.ReadFault (inl none) other calm = absurd cc
 calm_due before now outcome owed.ReadFault (inr due) other calm = absurd (other (sym due.0))
 calm_due before now outcome owed.Memory due other calm = calm
+calm_due before now outcome (owed.Init ended) (inl none) other calm = absurd cc
+calm_due before now outcome (owed.Init (Ok made)) (inr due) other calm = record { calm = calm; caused = tt }
+calm_due before now outcome (owed.Init (Err why.ReadFault)) (inr due) other calm = absurd (other (sym due.0))
+calm_due before now outcome (owed.Init (Err why.StoreFault)) (inr due) other calm = record { calm = tt; caused = record { fault = λ is. absurd cc; calm = λ _. calm } }
+calm_due before now outcome (owed.Init (Err why.Memory)) (inr due) other calm = record { calm = tt; caused = record { fault = λ is. absurd cc; calm = λ _. calm } }
+calm_due before now outcome (owed.Init (Err why.IndexThere)) (inr due) other calm = record { calm = tt; caused = record { fault = λ is. absurd cc; calm = λ _. calm } }
+calm_due before now outcome (owed.Init (Err (why.BadBook found))) (inr due) other calm = record { calm = tt; caused = record { fault = λ is. absurd cc; calm = λ _. calm } }
+calm_due before now outcome (owed.Summed text) due other calm = calm
+calm_due before now outcome owed.NoIndex due other calm = calm
+calm_due before now outcome (owed.Bad text) due other calm = calm
+calm_due before now outcome owed.StoreFault due other calm = calm
 
 -- no read failed before a line at fault
 pub calm_line : (before now : ℕ) (refused : ScriptRefused) (number : ℕ) → CountsReads before now (Err refused) → refused ≡ Line number → now ≡ before

@@ -7,11 +7,15 @@ use Rattle.ann_fault.specs.Counts.{next_count}
 use Rattle.ann_commands.specs.Counts.{CountsDue, CountsReads}
 use Rattle.ann_commands.specs.Owed.{IsOwed, IsPaid, owed_status}
 use Rattle.ann_commands.specs.Status.{Ends}
+use Rattle.ann_commands.specs.Checked.{Devices}
+use Rattle.std.specs.Prelude.{Ok, Err}
+use Rattle.ann_init.specs.declared.refused.InitWhy.TheVariants as why
+use Rattle.ann_commands.specs.declared.place.Place.{Place}
 use Rattle.ann_commands.specs.declared.owed.Owed.{Owed}
 use Rattle.ann_commands.specs.declared.owed.Owed.TheVariants as owed
 
-pub ends : (words : List (List ℕ)) (left left' taken taken' : Option (List ℕ)) (o : Owed) (status : ℕ) → IsOwed words left left' o → IsPaid taken taken' o status → Ends words left left' taken taken' status
-ends words left left' taken taken' o status owes paid = record {
+pub ends : {F V E S : Type 0} (D : Devices F V E S) (words : List (List ℕ)) (left left' taken taken' : Option (List ℕ)) (old new : Place F V E) (o : Owed) (status : ℕ) → IsOwed D words left left' old new o → IsPaid taken taken' o status → Ends D words left left' taken taken' old new status
+ends D words left left' taken taken' old new o status owes paid = record {
   outcome = owes.outcome;
   happens = owes.happens;
   done = λ other. ((paid.done other).0 ∙ owes.status_is, subst (Appends taken taken') owes.text_is (paid.done other).1);
@@ -25,6 +29,16 @@ owed_counts before now owed.Usage calm = (λ is. absurd (omega (arith, is)), λ 
 owed_counts before now (owed.Line text) calm = (λ is. absurd (omega (arith, is)), λ other. calm, inl calm)
 owed_counts before now owed.ReadFault failed = (λ is. failed, λ other. absurd (other refl), inr failed)
 owed_counts before now owed.Memory calm = (λ is. absurd (omega (arith, is)), λ other. calm, inl calm)
+owed_counts before now (owed.Init (Ok made)) due = (λ is. absurd (omega (arith, is)), λ other. due.calm, inl due.calm)
+owed_counts before now (owed.Init (Err why.ReadFault)) due = (λ is. due.caused.fault refl, λ other. absurd (other refl), inr (due.caused.fault refl))
+owed_counts before now (owed.Init (Err why.StoreFault)) due = (λ is. absurd (omega (arith, is)), λ other. due.caused.calm (λ same. absurd cc), inl (due.caused.calm (λ same. absurd cc)))
+owed_counts before now (owed.Init (Err why.Memory)) due = (λ is. absurd (omega (arith, is)), λ other. due.caused.calm (λ same. absurd cc), inl (due.caused.calm (λ same. absurd cc)))
+owed_counts before now (owed.Init (Err why.IndexThere)) due = (λ is. absurd (omega (arith, is)), λ other. due.caused.calm (λ same. absurd cc), inl (due.caused.calm (λ same. absurd cc)))
+owed_counts before now (owed.Init (Err (why.BadBook found))) due = (λ is. absurd (omega (arith, is)), λ other. due.caused.calm (λ same. absurd cc), inl (due.caused.calm (λ same. absurd cc)))
+owed_counts before now (owed.Summed text) calm = (λ is. absurd (omega (arith, is)), λ other. calm, inl calm)
+owed_counts before now owed.NoIndex calm = (λ is. absurd (omega (arith, is)), λ other. calm, inl calm)
+owed_counts before now (owed.Bad text) calm = (λ is. absurd (omega (arith, is)), λ other. calm, inl calm)
+owed_counts before now owed.StoreFault calm = (λ is. absurd (omega (arith, is)), λ other. calm, inl calm)
 
 pub counts : (before now : ℕ) (taken taken' : Option (List ℕ)) (o : Owed) (status : ℕ) → CountsDue o before now → IsPaid taken taken' o status → CountsReads status before now
 counts before now taken taken' o status due paid =

@@ -1,5 +1,5 @@
 -- The words of a command line.
-use Rattle.std.specs.Prelude.{◌≡◌, ℕ, ◌+◌, ◌&&◌, ◌==◌, false, nat_le, take, drop, position, Bool, List, [], ◌∷◌, Option, None, Some, codes, if◌then◌else◌}
+use Rattle.std.specs.Prelude.{◌≡◌, ℕ, ◌+◌, ◌%◌, ◌&&◌, ◌==◌, false, nat_le, take, drop, position, Bool, List, [], ◌∷◌, Option, None, Some, codes, if◌then◌else◌}
 use Rattle.std.specs.Str.{bytes_eq}
 use Rattle.ann_types.specs.declared.params.Params.{Params}
 use Rattle.ann_script.specs.Words.{number_of}
@@ -45,6 +45,49 @@ once_setting (name ∷ d ∷ r ∷ l ∷ alpha ∷ []) =
     if bytes_eq name (codes "once") then given_setting d r l alpha else None
 once_setting words = None
 
+-- what an index that is kept has besides: the width of beams, bytes of a code, and the points at which a graph freezes
+pub record Keeping : Type 0 where
+  pub w : ℕ
+  pub m : ℕ
+  pub freeze_at : ℕ
+
+-- what the command `init` is given
+pub record KeptSetting : Type 0 where
+  pub graph : Setting
+  pub keeping : Keeping
+
+-- each number is within its limits, and a vector falls into whole parts
+abbrev pub is_kept_within : KeptSetting → Bool
+is_kept_within s =
+    is_within s.graph && nat_le 1 s.keeping.w && nat_le s.keeping.w 16 && nat_le 1 s.keeping.m && nat_le s.keeping.m 64
+    && (s.graph.d % s.keeping.m == 0) && nat_le 1 s.keeping.freeze_at && nat_le s.keeping.freeze_at 100000
+
+abbrev pub kept_checked : Setting → Keeping → Option KeptSetting
+kept_checked graph keeping =
+    if is_kept_within (record { graph = graph; keeping = keeping }) then Some (record { graph = graph; keeping = keeping }) else None
+
+-- `D R L A/B`, before their limits are tested together
+abbrev pub graph_of : List ℕ → List ℕ → List ℕ → List ℕ → Option Setting
+graph_of d r l alpha =
+    number_of 1024 d >>= λ components. number_of 128 r >>= λ degree. number_of 1000 l >>= λ width. fraction_of alpha >>= λ f.
+    Some (record { d = components; r = degree; l_build = width; a = f.0; b = f.1 })
+
+-- `W M FREEZE`
+abbrev pub keeping_of : List ℕ → List ℕ → List ℕ → Option Keeping
+keeping_of w m freeze =
+    number_of 16 w >>= λ beam. number_of 64 m >>= λ parts. number_of 100000 freeze >>= λ most.
+    Some (record { w = beam; m = parts; freeze_at = most })
+
+-- the setting that these words give
+abbrev pub kept_given : Option Setting → Option Keeping → Option KeptSetting
+kept_given graph keeping = graph >>= λ g. keeping >>= λ k. kept_checked g k
+
+-- `init D R L A/B W M FREEZE`
+abbrev pub init_setting : List (List ℕ) → Option KeptSetting
+init_setting (name ∷ d ∷ r ∷ l ∷ alpha ∷ w ∷ m ∷ freeze ∷ []) =
+    if bytes_eq name (codes "init") then kept_given (graph_of d r l alpha) (keeping_of w m freeze) else None
+init_setting words = None
+
 -- `run WORKERS`, with 1 to 16 workers
 abbrev pub workers_of : List (List ℕ) → Option ℕ
 workers_of (name ∷ workers ∷ []) =
@@ -56,7 +99,12 @@ abbrev pub is_truth : List (List ℕ) → Bool
 is_truth (name ∷ []) = bytes_eq name (codes "truth")
 is_truth words = false
 
--- the words of neither, which are for one thread
+-- `check` alone
+abbrev pub is_check : List (List ℕ) → Bool
+is_check (name ∷ []) = bytes_eq name (codes "check")
+is_check words = false
+
+-- the words of neither `run` nor `truth`, which are for one thread
 pub record AreAlone (words : List (List ℕ)) : Type 0 where
   pub no_run : workers_of words ≡ None
   pub no_truth : is_truth words ≡ false
@@ -76,3 +124,11 @@ pub record IsOnce (words : List (List ℕ)) (p : Params) : Type 0 where
   pub setting : Setting
   pub given : once_setting words ≡ Some setting
   pub made : IsMade setting p
+
+-- the setting of these parameters
+abbrev pub kept_setting_of : Params → KeptSetting
+kept_setting_of p = record { graph = setting_of p; keeping = record { w = p.w; m = p.m; freeze_at = p.freeze_at } }
+
+-- the parameters that these words of `init` give
+abbrev pub IsInit : List (List ℕ) → Params → Type 0
+IsInit words p = init_setting words ≡ Some (kept_setting_of p)

@@ -1,5 +1,5 @@
 ghost use Rattle.std.specs.Prelude.{◌≡◌, map, string_bytes};
-ghost use Rattle.ann_commands.specs.Words.{workers_of, is_truth as truth_in};
+ghost use Rattle.ann_commands.specs.Words.{workers_of, is_check as check_in, is_truth as truth_in};
 
 use ann_script::number;
 
@@ -28,6 +28,16 @@ pub fn is_truth(words: &[String]) -> bool
 {
     match words {
         [name] => name.as_str() == "truth",
+        _ => false,
+    }
+}
+
+/// Whether the words are the command `check`.
+pub(crate) fn is_check(words: &[String]) -> bool
+    ensures { result ≡ check_in (map string_bytes words.now) }
+{
+    match words {
+        [name] => name.as_str() == "check",
         _ => false,
     }
 }

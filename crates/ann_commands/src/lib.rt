@@ -5,6 +5,7 @@
 //! the real objects and calls these.
 #![tactic(auto)]
 
+mod check;
 mod kinds;
 mod owed;
 mod place;

@@ -1,4 +1,5 @@
-ghost use Rattle.std.specs.Prelude.{◌≡◌, ◌-◌, List, map, IfOk, string_bytes};
+ghost use Rattle.std.specs.Prelude.{◌≡◌, ℕ, true, List, Option, None, map, IfOk, string_bytes};
+ghost use Rattle.ann_log.specs.Causes.{HasCauses};
 ghost use Rattle.ann_outside.specs.Told.{TellsStill};
 ghost use Rattle.ann_script.specs.Allowed.{IsScriptOf};
 ghost use Rattle.ann_script.specs.Script.{Client};
@@ -6,16 +7,21 @@ ghost use Rattle.ann_script.specs.declared.verbs.Verbs.TheVariants.{Once};
 ghost use Rattle.ann_types.specs.declared.params.Params.{Params};
 ghost use Rattle.ann_once.specs.Live.{ScriptTellsLive};
 ghost use Rattle.ann_once.specs.Once.{once_index};
+ghost use Rattle.ann_commands.specs.Checked.{devices};
 ghost use Rattle.ann_commands.specs.Counts.{CountsDue, CountsReads, CountsWrites};
 ghost use Rattle.ann_commands.specs.Owed.{IsDue, IsOwed, IsPaid};
 ghost use Rattle.ann_commands.specs.Place.{IsWhole};
-ghost use Rattle.ann_commands.specs.Status.{Served, LineFault, line_fault_text, Ends};
-ghost use Rattle.ann_commands.specs.Words.{AreAlone};
+ghost use Rattle.ann_commands.specs.Status.{Served, LineFault, line_fault_text, HasInited, Ends};
+ghost use Rattle.ann_commands.specs.Words.{AreAlone, is_check as check_in, once_setting};
 
+use crate::check::{check_index, said};
+use crate::kinds::is_check;
 use crate::owed::Owed;
 use crate::place::Place;
-use crate::words::once_params;
+use crate::words::{init_params, once_params};
 use ann_disk::LogFile;
+use ann_init::{InitEnd, InitWhy, init};
+use ann_log::Files;
 use ann_once::transcript_of;
 use ann_script::{Script, ScriptRefused, Sink, Source, Verbs, write_all};
 use ann_types::Params;
@@ -57,15 +63,91 @@ fn transcribed(alloc: Global, params: &Params, script: &Script) -> Owed
     }
 }
 
-/// What a command owes its output, after it has read its input.
-fn due<S: Source>(alloc: Global, words: &[String], input: &mut S) -> Owed
-    ensures is { IsOwed (map string_bytes words.now) (S.left input.old) (S.left input.new) result }
+/// Makes an empty index in a place, of the codebook that is read from an input.
+fn make_index<S: Source, F: LogFile, V: Vault, E: Eye<Seal = V::Seal>>(
+    alloc: Global,
+    params: &Params,
+    input: &mut S,
+    place: &mut Place<F, V, E>,
+) -> Result<(), InitWhy>
+    requires place { IsWhole place.old }
+    ensures ended { HasInited F.LogFile params.now (S.left input.old) (S.left input.new)
+        place.old place.new result }
+    ensures whole { IsWhole place.new }
+    ensures told { TellsStill (S.left input.old) (S.left input.new) }
+    ensures count { HasCauses (S.faults input.old) (S.faults input.new) InitWhy.ReadFault result }
+{
+    let (Some(first), Some(second)) = (place.log.take(), place.second.take()) else {
+        return Err(InitWhy::Memory);
+    };
+    let InitEnd { result, files } = init(alloc, input, Files { first, second }, params);
+    let Files { first, second } = files;
+    place.log = Some(first);
+    place.second = Some(second);
+    result
+}
+
+/// What is owed for the words `check`.
+fn due_check<F: LogFile, V: Vault, E: Eye<Seal = V::Seal>>(
+    alloc: Global,
+    words: &[String],
+    place: &mut Place<F, V, E>,
+) -> Owed
+    requires words { check_in (map string_bytes words.now) ≡ true }
+    requires place { IsWhole place.old }
+    ensures is { (left : Option (List ℕ)) → IsOwed
+        (devices F.LogFile V.Seal.tells V.Seal.bytes V.held V.faults E.faults) (map string_bytes words.now)
+        left left place.old place.new result }
+    ensures whole { IsWhole place.new }
+    ensures count { (count : ℕ) → CountsDue result count count }
+{
+    let ended = check_index(alloc, place);
+    said(alloc, &ended)
+}
+
+/// What is owed where the words aren't `once`: those of `init` or of `check`, or of no command.
+fn due_kept<S: Source, F: LogFile, V: Vault, E: Eye<Seal = V::Seal>>(
+    alloc: Global,
+    words: &[String],
+    input: &mut S,
+    place: &mut Place<F, V, E>,
+) -> Owed
+    requires words { once_setting (map string_bytes words.now) ≡ None }
+    requires place { IsWhole place.old }
+    ensures is { IsOwed
+        (devices F.LogFile V.Seal.tells V.Seal.bytes V.held V.faults E.faults)
+        (map string_bytes words.now) (S.left input.old) (S.left input.new)
+        place.old place.new result }
+    ensures whole { IsWhole place.new }
+    ensures told { TellsStill (S.left input.old) (S.left input.new) }
+    ensures count { CountsDue result (S.faults input.old) (S.faults input.new) }
+{
+    match init_params(words) {
+        Some(params) => Owed::Init(make_index(alloc, &params, input, place)),
+        None if is_check(words) => due_check(alloc, words, place),
+        None => Owed::Usage,
+    }
+}
+
+/// What a command owes its output, after it has read its input and worked with its place.
+fn due<S: Source, F: LogFile, V: Vault, E: Eye<Seal = V::Seal>>(
+    alloc: Global,
+    words: &[String],
+    input: &mut S,
+    place: &mut Place<F, V, E>,
+) -> Owed
+    requires { IsWhole place.old }
+    ensures is { IsOwed
+        (devices F.LogFile V.Seal.tells V.Seal.bytes V.held V.faults E.faults)
+        (map string_bytes words.now) (S.left input.old) (S.left input.new)
+        place.old place.new result }
+    ensures whole { IsWhole place.new }
     ensures told { TellsStill (S.left input.old) (S.left input.new) }
     ensures count { CountsDue result (S.faults input.old) (S.faults input.new) }
 {
     let params = match once_params(words) {
         Some(params) => params,
-        None => return Owed::Usage,
+        None => return due_kept(alloc, words, input, place),
     };
     match Script::read(alloc, input, Verbs::Once, 1) {
         Ok(script) => transcribed(alloc, &params, &script),
@@ -89,10 +171,14 @@ fn pay<K: Sink>(out: &mut K, owed: &Owed) -> u8
 
 /// Runs a command of one thread over any input, output and place, and gives its exit status.
 ///
-/// The command is `once D R L A/B`: it reads a script of one client, and writes the replies to its commands in order.
-/// The status is 0, or 2 where the words are at fault, 3 where a line of the script is, 4 where a read failed, 5 where
-/// a write failed, and 9 where there was no memory. For all but 5 the text that belongs to it was written as a whole.
-/// The place isn't touched.
+/// The command `once D R L A/B` reads a script of one client, and writes the replies to its commands in order. It
+/// doesn't touch the place. `init D R L A/B W M FREEZE` reads a codebook and makes an empty index in the place. `check` reads
+/// no input, looks into the index that is there, and changes nothing.
+///
+/// The status is 0, or 2 where the words are at fault, 3 where a line of a script is, 4 where a read failed, 5 where
+/// a write failed, 6 where a call of the place failed, 7 where no index is there, 8 where the log or a segment is at fault,
+/// 9 where there was no memory, 10 where an index is there, and 11 where the codebook is at fault. For all but 5 the text that belongs to it was written as a whole. The place has all
+/// its parts again.
 pub fn run_alone<S: Source, K: Sink, F: LogFile, V: Vault, E: Eye<Seal = V::Seal>>(
     alloc: Global,
     words: &[String],
@@ -103,10 +189,15 @@ pub fn run_alone<S: Source, K: Sink, F: LogFile, V: Vault, E: Eye<Seal = V::Seal
     requires words { AreAlone (map string_bytes words.now) }
     requires place { IsWhole place.old }
     // The status and the written text are those of what happened; where a write failed, a front of that text was written.
-    ensures ends { Ends (map string_bytes words.now)
+    // The place is as it was, save that `init` may have made an empty index in its files, and that the devices which `check`
+    // used, and leaves as they read, may have counted.
+    ensures ends { Ends (devices F.LogFile V.Seal.tells V.Seal.bytes V.held V.faults E.faults)
+        (map string_bytes words.now)
         (S.left input.old) (S.left input.new)
         (K.taken out.old) (K.taken out.new)
+        place.old place.new
         result }
+    ensures whole { IsWhole place.new }
     // Each tag that a search of a script tells is live at the list that its reply names.
     ensures live { (params : Params) (script : List Client) → ScriptTellsLive (once_index params) script }
     ensures told { TellsStill (S.left input.old) (S.left input.new)
@@ -114,9 +205,7 @@ pub fn run_alone<S: Source, K: Sink, F: LogFile, V: Vault, E: Eye<Seal = V::Seal
     // A fault is one that was counted in this call, and a count rises for a fault alone.
     ensures reads { CountsReads result (S.faults input.old) (S.faults input.new) }
     ensures writes { CountsWrites result (K.faults out.old) (K.faults out.new) }
-    // The place is as it was.
-    ensures place { place.new ≡ place.old }
 {
-    let owed = due(alloc, words, input);
+    let owed = due(alloc, words, input, place);
     pay(out, &owed)
 }
