@@ -16,7 +16,7 @@ import subprocess
 import sys
 import tempfile
 
-from repository import TOP, built_beside
+from repository import built_beside, descriptors
 
 HERE = os.path.dirname(os.path.abspath(__file__))
 LINE = "ann_merges: ann_types ann_greedy ann_pq ann_segment ann_vault ann_dead ann_table ann_frozen ann_mlaws ann_merge anyhow"
@@ -87,11 +87,7 @@ def main():
     points = int((sys.argv[2:3] + ["80000"])[0])
     place = f"{folder}/segments"
     os.makedirs(place, exist_ok=True)
-    base, book, source = f"{folder}/base.u8bin", f"{folder}/book-32", f"{folder}/merges-{points}"
-    if not os.path.exists(base):
-        subprocess.run([os.path.join(HERE, "sift", "make.sh"), folder], check=True)
-    if not os.path.exists(book):
-        subprocess.run([os.path.join(TOP, "tools", "codebook.py"), base, "32", book], check=True)
+    (base, book), source = descriptors(folder), f"{folder}/merges-{points}"
     with open(source, "wb") as out:
         out.write(open(book, "rb").read())
         with open(base, "rb") as vectors:

@@ -12,7 +12,7 @@ import os
 import subprocess
 import sys
 
-from repository import TOP, built_beside
+from repository import built_beside, descriptors
 
 HERE = os.path.dirname(os.path.abspath(__file__))
 LINE = "ann_phases: ann_types ann_greedy ann_prune ann_pq ann_table ann_insert ann_mdelete ann_minsert ann_mpatch arrayvec"
@@ -49,11 +49,7 @@ def main():
     folder = os.path.abspath(sys.argv[1])
     points, new = (int(word) for word in sys.argv[2:4] + ["10000", "5000"][len(sys.argv[2:4]) :])
     os.makedirs(folder, exist_ok=True)
-    base, book, source = f"{folder}/base.u8bin", f"{folder}/book-32", f"{folder}/phases-{points}-{new}"
-    if not os.path.exists(base):
-        subprocess.run([os.path.join(HERE, "sift", "make.sh"), folder], check=True)
-    if not os.path.exists(book):
-        subprocess.run([os.path.join(TOP, "tools", "codebook.py"), base, "32", book], check=True)
+    (base, book), source = descriptors(folder), f"{folder}/phases-{points}-{new}"
     with open(source, "wb") as out:
         out.write(open(book, "rb").read())
         out.write(open(base, "rb").read()[8 : 8 + (points + new) * 128])

@@ -1,4 +1,5 @@
-"""Programs that the kit proves and builds: those of the repository, and those of bench/, each beside a copy of the crates."""
+"""What the measurements share: programs that the kit proves and builds, those of the repository and those of bench/, each of
+these beside a copy of the crates; and the vectors that they are given."""
 import os
 import shutil
 import subprocess
@@ -35,3 +36,13 @@ def built_beside(folder, line, *words):
             for source in names:
                 os.rename(os.path.join(path, source), os.path.join(path, source.removesuffix(".txt")))
     return built(crate, *words)
+
+
+def descriptors(folder):
+    """The vectors and their codebook of 32 parts in this folder; each is made where it isn't there yet."""
+    base, book = os.path.join(folder, "base.u8bin"), os.path.join(folder, "book-32")
+    if not os.path.exists(base):
+        subprocess.run([os.path.join(BENCH, "sift", "make.sh"), folder], check=True)
+    if not os.path.exists(book):
+        subprocess.run([os.path.join(TOP, "tools", "codebook.py"), base, "32", book], check=True)
+    return base, book

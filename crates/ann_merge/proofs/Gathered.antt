@@ -1,8 +1,7 @@
 -- The new points of frozen graphs are the rows that aren't deleted, graph by graph.
-use Rattle.std.proofs.Common.{◌≡◌, ℕ, suc, ◌+◌, ◌≤◌, ◌<◌, List, [], ◌∷◌, ◌++◌, refl, sym, ap, ap₂, ◌∙◌, not, map, filter, take, length, get_or, append_assoc, arith}
+use Rattle.std.proofs.Common.{◌≡◌, ℕ, ◌+◌, ◌≤◌, ◌<◌, List, [], ◌∷◌, ◌++◌, refl, sym, ap, ap₂, ◌∙◌, not, map, filter, take, length, get_or, append_assoc, arith}
 use Rattle.std.specs.Prelude.{All}
 use Rattle.std.specs.List.{flat_map}
-use Rattle.std.proofs.Math.Seq.{take-suc}
 use Rattle.std.proofs.lemmas.List.{map-append, get_or_default, get_or-map, length-map, take_all, take_more}
 use Rattle.std.proofs.lemmas.List.Concat.{flat_map-cons}
 use Rattle.std.proofs.lemmas.List.Elements.{All-from_recursion, All-map, recursion_from_All, filter-append}
@@ -26,12 +25,8 @@ kept_append gone xs ys =
     ∙ map-append plain (filter (λ (x : Node). not (has gone x.pid)) xs) (filter (λ (x : Node). not (has gone x.pid)) ys)
 
 -- one row more
-pub kept_more : (gone : List ℕ) (nodes : List Node) (row : ℕ) (d : Node) (before now after : List NewPoint) → row < length nodes → now ≡ before ++ kept_rows gone (take row nodes) → after ≡ now ++ kept_rows gone (get_or nodes row d ∷ []) → after ≡ before ++ kept_rows gone (take (suc row) nodes)
-kept_more gone nodes row d before now after below was more =
-    more
-    ∙ ap (λ t. t ++ kept_rows gone (get_or nodes row d ∷ [])) was
-    ∙ append_assoc before (kept_rows gone (take row nodes)) (kept_rows gone (get_or nodes row d ∷ []))
-    ∙ ap (λ t. before ++ t) (sym (ap (kept_rows gone) (take-suc nodes row d below) ∙ kept_append gone (take row nodes) (get_or nodes row d ∷ [])))
+pub kept_next : (gone : List ℕ) (nodes : List Node) (row : ℕ) (d : Node) → row < length nodes → kept_rows gone (take (row + 1) nodes) ≡ kept_rows gone (take row nodes) ++ kept_rows gone (get_or nodes row d ∷ [])
+kept_next gone nodes row d below = ap (kept_rows gone) (take_more nodes row d below) ∙ kept_append gone (take row nodes) (get_or nodes row d ∷ [])
 
 -- the new points of one graph
 graph_new : (gone : List ℕ) (nodes : List Node) → map new_point (survivors gone (graph_of nodes).points) ≡ kept_rows gone nodes

@@ -1,8 +1,9 @@
 -- What the phases make of a merge's parts is a plan for the merge.
-use Rattle.std.proofs.Common.{◌≡◌, ℕ, ◌<◌, List, [], ◌++◌, refl, sym, ap, ap₂, subst, ◌∙◌, not, map, length}
+use Rattle.std.proofs.Common.{◌≡◌, ℕ, ◌<◌, ◌^◌, List, [], ◌++◌, refl, sym, ap, ap₂, subst, ◌∙◌, not, map, length}
 use Rattle.std.specs.Prelude.{All, Option, None, Some, MatchOption, Result, Ok, Err, IfOk}
 use Rattle.std.specs.List.Sorted.{IsStrictlyIncreasing}
 use Rattle.std.proofs.lemmas.List.{map-append}
+use Rattle.std.proofs.lemmas.Result.{IfOk-weaker}
 use Rattle.std.proofs.lemmas.List.Elements.{filter-append}
 use Rattle.ann_types.specs.Codes.{Book, code}
 use Rattle.ann_types.specs.Graph.{Graph, pids_of}
@@ -19,6 +20,7 @@ use Rattle.ann_mpatch.specs.Plan.{IsPlan}
 use Rattle.ann_mpatch.specs.declared.plan.PatchPlan.{PatchPlan}
 use Rattle.ann_mlaws.specs.Plan.{IsLti, IsMergePlan}
 use Rattle.ann_mlaws.specs.Rows.{IsPlanned, MayMerge, old_items, survivors_of}
+use Rattle.ann_mphases.specs.Planned.{PlansMerge}
 use Rattle.ann_mseal.specs.Merged.{merged_items}
 use Rattle.ann_merge.specs.Gathered.{all_pids, frozen_points, merged_pids, new_of}
 use Rattle.ann_merge.specs.Job.{IsOrder, IsPlanFor, Order, index_of}
@@ -35,6 +37,10 @@ module _ {S : Type 0} (bytes : S → List ℕ) (order : Order S) (is : IsOrder o
     small = new_all (old_items order.old) order.frozen (λ p. p < pid_end) order.gone is.small;
     vectors = vectors;
   }
+
+  -- what is true of the new points
+  abbrev pub AreSized : List NewPoint → Type 0
+  AreSized points = All (λ (x : NewPoint). length x.vector ≡ order.params.d) points × All (λ (x : NewPoint). x.tag < 2 ^ 64) points
 
   module _ (tells : Type 0) (plan : PatchPlan S) (entry : Option ℕ) (planned : IsPlanned tells bytes (index_of order) order.gone order.old (new_of order.gone order.frozen) plan entry) where
     items_are : merged_items order.book.book plan ≡ map (item_of (old_items order.old)) (survivors_of order.gone order.old) ++ map (λ (x : NewPoint). (x.pid, code order.book.book x.vector)) (new_of order.gone order.frozen)
@@ -65,14 +71,16 @@ module _ {S : Type 0} (bytes : S → List ℕ) (order : Order S) (is : IsOrder o
         entered None none = ap length none
         entered (Some row) below = below
 
-    pub plan_for : IsPlan plan → (tells → (lti : Graph) → IsLti bytes (index_of order) order.old lti → IsMergePlan (index_of order) lti (new_of order.gone order.frozen) order.gone plan entry) → IsPlanFor tells bytes order plan entry
-    plan_for sound merge = record {
+    pub plan_for : AreSized (new_of order.gone order.frozen) → IsPlan plan → (tells → (lti : Graph) → IsLti bytes (index_of order) order.old lti → IsMergePlan (index_of order) lti (new_of order.gone order.frozen) order.gone plan entry) → IsPlanFor tells bytes order plan entry
+    plan_for sized sound merge = record {
       sound = sound;
       old_segment = planned.segment;
       params_are = planned.params;
       entered = entered_is;
       pids = pids_are;
       rising = rising_is;
+      vectors = sized.0;
+      tags = sized.1;
       merge = merge;
     }
 
@@ -89,20 +97,13 @@ module _ {S : Type 0} (bytes : S → List ℕ) (order : Order S) (is : IsOrder o
     abbrev pub PlansOf : Book → List NewPoint → Type 0
     PlansOf book points =
         let index : Index = record { params = order.params; book = book } in
-        IfOk result (λ x. IsPlanned tells bytes index order.gone order.old points (plan_in x) (entry_in x))
-        × IfOk result (λ x. IsPlan (plan_in x))
-        × (tells → IfOk result (λ x. (lti : Graph) → IsLti bytes index order.old lti → IsMergePlan index lti points order.gone (plan_in x) (entry_in x)))
+        IfOk result (λ x. PlansMerge tells bytes index order.gone order.old points (plan_in x) (entry_in x))
 
-    all_three : {T : Type 0} (r : Result X Y) (P Q R Z : X → Type 0) → ((x : X) → P x → Q x → (T → R x) → Z x) → IfOk r P → IfOk r Q → (T → IfOk r R) → IfOk r Z
-    all_three (Ok x) P Q R Z f p q r = f x p q r
-    all_three (Err e) P Q R Z f p q r = tt
-
-    pub plans_for : (book : Book) (points : List NewPoint) → book ≡ order.book.book → points ≡ new_of order.gone order.frozen → PlansOf book points → IfOk result (λ x. IsPlanFor tells bytes order (plan_in x) (entry_in x))
-    plans_for book points same_book same_points plans =
+    pub plans_for : (book : Book) (points : List NewPoint) → book ≡ order.book.book → points ≡ new_of order.gone order.frozen → AreSized points → PlansOf book points → IfOk result (λ x. IsPlanFor tells bytes order (plan_in x) (entry_in x))
+    plans_for book points same_book same_points sized plans =
+        let each = subst AreSized same_points sized in
         let all = subst (λ b. PlansOf b (new_of order.gone order.frozen)) same_book (subst (PlansOf book) same_points plans) in
-        all_three result
-        (λ x. IsPlanned tells bytes (index_of order) order.gone order.old (new_of order.gone order.frozen) (plan_in x) (entry_in x))
-        (λ x. IsPlan (plan_in x))
-        (λ x. (lti : Graph) → IsLti bytes (index_of order) order.old lti → IsMergePlan (index_of order) lti (new_of order.gone order.frozen) order.gone (plan_in x) (entry_in x))
+        IfOk-weaker result
+        (λ x. PlansMerge tells bytes (index_of order) order.gone order.old (new_of order.gone order.frozen) (plan_in x) (entry_in x))
         (λ x. IsPlanFor tells bytes order (plan_in x) (entry_in x))
-        (λ x planned sound merge. plan_for tells (plan_in x) (entry_in x) planned sound merge) all.0 all.1 all.2
+        (λ x plans. plan_for tells (plan_in x) (entry_in x) plans.rows each plans.sound plans.merge) all

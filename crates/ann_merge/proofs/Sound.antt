@@ -1,8 +1,10 @@
 -- No block is bad where the old segment holds a graph.
 use Rattle.std.proofs.Common.{◌≡◌, ℕ, ◌<◌, List, [], ◌∷◌, arith, length}
 use Rattle.std.specs.Prelude.{Option, None, Some}
+use Rattle.std.specs.FinMap.{get}
 use Rattle.ann_types.specs.Graph.{Graph}
 use Rattle.ann_types.specs.Index.{Index}
+use Rattle.ann_vault.specs.Held.{Holding}
 use Rattle.ann_segment.specs.Segment.{SegmentView}
 use Rattle.ann_segment.proofs.Holding.{holds_row}
 use Rattle.ann_mdelete.specs.declared.refused.WorkRefused.{WorkRefused}
@@ -10,7 +12,7 @@ use Rattle.ann_mdelete.specs.declared.refused.WorkRefused.TheVariants.{Disk, Bad
 use Rattle.ann_mpatch.specs.Source.{IsSound, source_of}
 use Rattle.ann_mcause.specs.Eyes.{AreCause}
 use Rattle.ann_mlaws.specs.Plan.{IsLti}
-use Rattle.ann_merge.specs.Job.{IsWorkRefused, NamesNoBlock}
+use Rattle.ann_merge.specs.Job.{IsMergeText, IsStopped, IsWorkRefused, LeavesNumber, NamesNoBlock, Order, index_of}
 
 module _ {S : Type 0} (bytes : S → List ℕ) (index : Index) (lti : Graph) (parts : length index.book ≡ index.params.m) where
   -- each row's block is in the format
@@ -32,3 +34,11 @@ module _ {S : Type 0} (bytes : S → List ℕ) (index : Index) (lti : Graph) (pa
     names_none before now eyes worked Disk cause = tt
     names_none before now eyes worked (BadSegment block) cause = none_bad eyes worked block cause
     names_none before now eyes worked Memory cause = tt
+
+-- A refusal of the work has its cause, and names no block where the old segment holds a graph.
+pub stopped : {S E : Type 0} (tells : Type 0) (bytes : S → List ℕ) (order : Order S) (reads faults : E → ℕ) (before now : ℕ) (eyes worked : List E) (old new : Holding) (why : WorkRefused) → length order.book.book ≡ order.params.m → IsWorkRefused reads faults tells (source_of bytes order.old) order.params before now eyes worked why → (tells → LeavesNumber (IsMergeText bytes order) (get old order.number) (get new order.number) why) → IsStopped tells bytes order (IsWorkRefused reads faults tells (source_of bytes order.old) order.params before now eyes worked) old new why
+stopped tells bytes order reads faults before now eyes worked old new why parts cause left = record {
+  cause = cause;
+  sound = λ told lti held. names_none bytes (index_of order) lti parts reads faults tells told order.old held before now eyes worked why cause;
+  left = left;
+}

@@ -1,8 +1,9 @@
 // A merge by some of the eyes, while the others are set aside.
-ghost use Rattle.std.specs.Prelude.{◌≡◌, ◌≤◌, ◌<◌, [], length, vec_capacity, IfOk, IfErr, OnOk, OnErr};
+ghost use Rattle.std.specs.Prelude.{◌≡◌, ◌≤◌, ◌<◌, [], length, vec_capacity, IfOk, IfErr, OnOk, OnErr, MatchResult};
+ghost use Rattle.std.specs.FinMap.{get};
 ghost use Rattle.ann_mpatch.specs.Source.{source_of};
 ghost use Rattle.ann_mcause.specs.Eyes.{HaveGone};
-ghost use Rattle.ann_merge.specs.Job.{AreSetAside, IsMergeOf, IsWorkRefused, KeepsNumbers, StandsSealed};
+ghost use Rattle.ann_merge.specs.Job.{AreSetAside, IsDone, IsMergeText, IsWorkRefused, KeepsNumbers, LeavesNumber};
 
 use crate::merging::Taken;
 use crate::pour::pour;
@@ -56,13 +57,12 @@ pub(crate) fn merge_by<
     vault: &mut V,
     eyes: &mut Vec<E>,
 ) -> Result<Segment<S>, WorkRefused>
-    requires some { 0 < workers }
-    requires few { workers ≤ 16 }
+    requires workers { (0 < workers) × (workers ≤ 16) }
     requires enough { workers ≤ length eyes.old.items }
     ensures eyes { HaveGone E.reads E.faults eyes.old.items eyes.new.items }
-    ensures merged { IfOk result (IsMergeOf S.tells S.bytes taken.now) }
-    ensures sealed { S.tells → IfOk result (λ segment.
-        StandsSealed S.bytes taken.now (V.held vault.new) segment) }
+    ensures ends { MatchResult result (IsDone S.tells S.bytes taken.now (V.held vault.new))
+        (λ why. S.tells → LeavesNumber (IsMergeText S.bytes taken.now)
+        (get (V.held vault.old) taken.now.number) (get (V.held vault.new) taken.now.number) why) }
     ensures others { S.tells → KeepsNumbers taken.now.number (V.held vault.old) (V.held vault.new) }
     ensures vault { V.faults vault.old ≤ V.faults vault.new }
     ensures refused { let source = source_of S.bytes taken.now.old in

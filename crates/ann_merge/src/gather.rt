@@ -1,5 +1,5 @@
 // The new points of a merge, copied from its frozen graphs.
-ghost use Rattle.std.specs.Prelude.{◌≡◌, ◌<◌, ◌++◌, [], ◌∷◌, length, map, All, IfOk, OnOk};
+ghost use Rattle.std.specs.Prelude.{◌≡◌, ◌<◌, ◌^◌, ◌++◌, [], ◌∷◌, length, map, All, IfOk, OnOk};
 ghost use Rattle.std.specs.Arc.{arc_value};
 ghost use Rattle.ann_frozen.specs.Frozen.{FrozenView};
 ghost use Rattle.ann_table.specs.Node.{node_at};
@@ -21,8 +21,10 @@ fn add_row(
     points: &mut Vec<NewPoint>,
 ) -> Result<(), AllocError>
     requires row { row < length graph.now.nodes }
-    ensures { OnOk result (points.new.items
+    ensures added { OnOk result (points.new.items
         ≡ points.old.items ++ kept_rows gone.now (node_at graph.now.nodes row ∷ [])) }
+    ensures tags { OnOk result (All (λ x. x.tag < 2 ^ 64)
+        (kept_rows gone.now (node_at graph.now.nodes row ∷ []))) }
 {
     let pid = graph.pid(row);
     if gone.contains(pid) {
@@ -46,6 +48,7 @@ fn add_graph(
 ) -> Result<(), AllocError>
     ensures added { OnOk result (points.new.items ≡ points.old.items ++ kept_rows gone.now graph.now.nodes) }
     ensures vectors { All (λ x. length x.vector ≡ graph.now.params.d) (kept_rows gone.now graph.now.nodes) }
+    ensures tags { OnOk result (All (λ x. x.tag < 2 ^ 64) (kept_rows gone.now graph.now.nodes)) }
 {
     graph.known();
     for row in 0..Graph::count(graph) {
@@ -64,6 +67,7 @@ pub(crate) fn new_points(
     requires { All (λ (f : FrozenView). f.params ≡ params.now) (map arc_value graphs.now) }
     ensures points { IfOk result (λ points. points.items ≡ new_of gone.now (map arc_value graphs.now)) }
     ensures vectors { IfOk result (λ points. All (λ x. length x.vector ≡ params.now.d) points.items) }
+    ensures tags { IfOk result (λ points. All (λ x. x.tag < 2 ^ 64) points.items) }
 {
     let mut points = Vec::new(alloc);
     for graph in graphs {

@@ -1,11 +1,9 @@
 ghost use Rattle.std.specs.Prelude.{◌≡◌, ◌≤◌, ◌<◌, ◌↔◌, None, false, length, map, IsTrue, IsOk, IsSome, IfOk, IfErr, OnOk, OnErr, MatchOption};
 ghost use Rattle.std.specs.Arc.{arc_value};
 ghost use Rattle.std.specs.Option.{option_map};
-ghost use Rattle.ann_types.specs.Graph.{Graph};
 ghost use Rattle.ann_mpatch.specs.Source.{source_of};
 ghost use Rattle.ann_mcause.specs.Eyes.{HaveGone};
-ghost use Rattle.ann_mlaws.specs.Plan.{IsLti};
-ghost use Rattle.ann_merge.specs.Job.{IsDone, IsOrder, IsWorkRefused, KeepsNumbers, NamesNoBlock, faulted_by, index_of, order_of};
+ghost use Rattle.ann_merge.specs.Job.{HasWorked, IsDone, IsOrder, IsStopped, IsWorkRefused, VaultGoesOn, order_of};
 
 use crate::aside::merge_by;
 use crate::merging::Taken;
@@ -163,26 +161,23 @@ impl<S: Sealed + Send + Sync, V: Vault<Seal = S>, E: Eye<Seal = S> + Send> Job<V
         workers: u32,
         gate: &G,
     ) -> Result<(), WorkRefused>
-        requires some { 0 < workers }
-        requires few { workers ≤ 16 }
+        requires workers { (0 < workers) × (workers ≤ 16) }
         requires enough { workers ≤ length self.old.eyes }
+
         ensures again { IsSome self.old.segment → IsOk result × (self.new ≡ self.old) }
         ensures order { self.new.order ≡ self.old.order }
         ensures eyes { HaveGone E.reads E.faults self.old.eyes self.new.eyes }
-        ensures others { S.tells →
-            KeepsNumbers self.old.order.number (V.held self.old.vault) (V.held self.new.vault) }
-        ensures vault { V.faults self.old.vault ≤ V.faults self.new.vault }
+        ensures vault { VaultGoesOn S.tells self.old.order.number
+            (V.faults self.old.vault) (V.faults self.new.vault)
+            (V.held self.old.vault) (V.held self.new.vault) }
         // What a done job's segment is, is true of every job; `into_parts` tells it.
-        ensures done { OnOk result (IsSome self.new.segment) }
-        ensures calm { OnOk result (self.new.faulted ≡ self.old.faulted) }
-        ensures undone { OnErr result (self.new.segment ≡ None) }
-        ensures faulted { IfErr result (λ why. self.new.faulted ≡ faulted_by self.old.faulted why) }
+        ensures worked { HasWorked self.old self.new result }
+        // A refusal has its cause, and leaves under the number what stood there, nothing, or the merge's text.
         ensures refused { let source = source_of S.bytes self.old.order.old in
-            IfErr result (IsWorkRefused E.reads E.faults S.tells source self.old.order.params
-            (V.faults self.old.vault) (V.faults self.new.vault) self.old.eyes self.new.eyes) }
-        // Where the seals tell and the old segment holds a graph, no block is named.
-        ensures sound { S.tells → (lti : Graph)
-            → IsLti S.bytes (index_of self.old.order) self.old.order.old lti → IfErr result NamesNoBlock }
+            IfErr result (IsStopped S.tells S.bytes self.old.order
+            (IsWorkRefused E.reads E.faults S.tells source self.old.order.params
+            (V.faults self.old.vault) (V.faults self.new.vault) self.old.eyes self.new.eyes)
+            (V.held self.old.vault) (V.held self.new.vault)) }
     {
         if self.segment.is_some() {
             return Ok(());

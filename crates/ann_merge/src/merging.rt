@@ -1,9 +1,10 @@
 // One attempt at a merge, from the new points to the sealed segment.
-ghost use Rattle.std.specs.Prelude.{◌≡◌, ◌≤◌, ◌<◌, length, IfOk, IfErr};
+ghost use Rattle.std.specs.Prelude.{◌≡◌, ◌≤◌, ◌<◌, length, IfOk, IfErr, MatchResult};
+ghost use Rattle.std.specs.FinMap.{get};
 ghost use Rattle.ann_types.specs.Index.{IsBookOf};
 ghost use Rattle.ann_mpatch.specs.Source.{source_of};
 ghost use Rattle.ann_mcause.specs.Eyes.{AreCause, HaveGone};
-ghost use Rattle.ann_merge.specs.Job.{IsMergeOf, IsPlanFor, IsWorkRefused, KeepsNumbers, StandsSealed};
+ghost use Rattle.ann_merge.specs.Job.{IsDone, IsMergeText, IsPlanFor, IsWorkRefused, KeepsNumbers, LeavesNumber};
 
 use crate::clear::clear;
 use crate::gather::new_points;
@@ -67,8 +68,7 @@ impl<S: Sealed + Send + Sync> Taken<S> {
         gate: &G,
         eyes: &mut Vec<E>,
     ) -> Result<Planned<S>, WorkRefused>
-        requires some { 0 < length eyes.old.items }
-        requires few { length eyes.old.items ≤ 16 }
+        requires workers { (0 < length eyes.old.items) × (length eyes.old.items ≤ 16) }
         ensures eyes { HaveGone E.reads E.faults eyes.old.items eyes.new.items }
         ensures planned { IfOk result (λ planned.
             IsPlanFor S.tells S.bytes self.now planned.plan planned.entry) }
@@ -95,7 +95,7 @@ impl<S: Sealed + Send + Sync> Taken<S> {
     ///
     /// # Errors
     ///
-    /// `Disk`, `BadSegment` or `Memory`. The number may be sealed or not, and no other has changed.
+    /// `Disk`, `BadSegment` or `Memory`. No other number has changed, and this one has what it had, nothing, or the merge.
     pub(crate) fn merge<
         R: Threads + Sync,
         V: Vault<Seal = S>,
@@ -109,12 +109,11 @@ impl<S: Sealed + Send + Sync> Taken<S> {
         vault: &mut V,
         eyes: &mut Vec<E>,
     ) -> Result<Segment<S>, WorkRefused>
-        requires some { 0 < length eyes.old.items }
-        requires few { length eyes.old.items ≤ 16 }
+        requires workers { (0 < length eyes.old.items) × (length eyes.old.items ≤ 16) }
         ensures eyes { HaveGone E.reads E.faults eyes.old.items eyes.new.items }
-        ensures merged { IfOk result (IsMergeOf S.tells S.bytes self.now) }
-        ensures sealed { S.tells → IfOk result (λ segment.
-            StandsSealed S.bytes self.now (V.held vault.new) segment) }
+        ensures ends { MatchResult result (IsDone S.tells S.bytes self.now (V.held vault.new))
+            (λ why. S.tells → LeavesNumber (IsMergeText S.bytes self.now)
+            (get (V.held vault.old) self.now.number) (get (V.held vault.new) self.now.number) why) }
         ensures others { S.tells → KeepsNumbers self.now.number (V.held vault.old) (V.held vault.new) }
         ensures vault { V.faults vault.old ≤ V.faults vault.new }
         ensures refused { let source = source_of S.bytes self.now.old in

@@ -5,3 +5,4 @@ pub mod Repaired
 pub mod Linked
 pub mod Left
 pub mod Grown
+pub mod Planned

@@ -1,17 +1,15 @@
 ghost use Rattle.std.specs.Prelude.{◌≡◌, ◌≤◌, ◌<◌, ℕ, List, Option, All, [], length, MatchOption, IfOk, IfErr};
 ghost use Rattle.std.specs.Arc.{arc_value};
 ghost use Rattle.std.specs.Option.{option_map};
-ghost use Rattle.ann_types.specs.Graph.{Graph};
 ghost use Rattle.ann_mcause.specs.Eyes.{AreCause, HaveGone};
 ghost use Rattle.ann_mdelete.specs.declared.refused.WorkRefused.TheVariants.{Memory};
 ghost use Rattle.ann_minsert.specs.Mean.{IsCentral};
-ghost use Rattle.ann_mlaws.specs.Plan.{IsLti, IsMergePlan};
 ghost use Rattle.ann_mlaws.specs.Rows.{IsPlanned, MayMerge};
-ghost use Rattle.ann_mpatch.specs.Plan.{IsPlan};
 ghost use Rattle.ann_mpatch.specs.Source.{source_of};
 ghost use Rattle.ann_mphases.specs.Grown.{MayGrow};
 ghost use Rattle.ann_mphases.specs.Index.{index_of};
 ghost use Rattle.ann_mphases.specs.Left.{IsLeft};
+ghost use Rattle.ann_mphases.specs.Planned.{PlansMerge};
 
 use crate::grown::{Grown, grow};
 use crate::left::{Left, delete_old};
@@ -143,21 +141,14 @@ pub fn plan_merge<
     params: &Params,
     eyes: &mut Vec<E>,
 ) -> Result<Planned<S>, WorkRefused>
-    requires some { 0 < length eyes.old.items }
-    requires few { length eyes.old.items ≤ 16 }
+    requires workers { (0 < length eyes.old.items) × (length eyes.old.items ≤ 16) }
     requires book { params.now.d ≡ book.now.d }
     requires may { MayMerge (index_of params.now book.now) (option_map arc_value old.now) points.items }
 
     ensures eyes { HaveGone E.reads E.faults eyes.old.items eyes.new.items }
-    // The plan is what the phases make, row by row.
-    ensures planned { IfOk result (λ p. IsPlanned S.tells S.bytes (index_of params.now book.now) gone.now
+    // The plan is what the phases make and can be patched; told, it is the definition's plan of the old graph.
+    ensures planned { IfOk result (λ p. PlansMerge S.tells S.bytes (index_of params.now book.now) gone.now
         (option_map arc_value old.now) points.items p.plan p.entry) }
-    // It can be patched.
-    ensures sound { IfOk result (λ p. IsPlan p.plan) }
-    // Where the seal tells its bytes, it is the definition's plan of the graph that the segment holds.
-    ensures merged { S.tells → IfOk result (λ p. (lti : Graph)
-        → IsLti S.bytes (index_of params.now book.now) (option_map arc_value old.now) lti
-        → IsMergePlan (index_of params.now book.now) lti points.items gone.now p.plan p.entry) }
     // It is refused only with the cause in one of the eyes, or for want of memory.
     ensures refused { IfErr result (AreCause E.reads E.faults S.tells
         (source_of S.bytes (option_map arc_value old.now)) params.now eyes.old.items eyes.new.items) }

@@ -5,3 +5,4 @@ pub mod Steps
 pub mod Refusals
 pub mod Texts
 pub mod Writings
+pub mod Ends

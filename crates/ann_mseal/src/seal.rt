@@ -2,14 +2,12 @@
 ghost use Rattle.std.specs.Prelude.{◌≡◌, ◌≤◌, ◌<◌, ◌+◌, length, None, IfOk, IfErr, OnOk, MatchResult};
 ghost use Rattle.std.specs.FinMap as map;
 ghost use Rattle.ann_vault.specs.Drafts.{KeepsOthers};
-ghost use Rattle.ann_segment.specs.Directory.{AreRising};
-ghost use Rattle.ann_segment.specs.Segment.{IsEntryOf};
+ghost use Rattle.ann_vault.specs.Held.{MayBeSealed};
 ghost use Rattle.ann_segment.specs.Writer.{HasBegun, IsDraftOf, IsWritten, KeepsRest, SealsText};
 ghost use Rattle.ann_mcause.specs.Eyes.{AreCause, HaveGone};
-ghost use Rattle.ann_mlaws.specs.Rows.{HasCodes};
-ghost use Rattle.ann_mpatch.specs.Plan.{IsPlan, segment_in, source_for};
-ghost use Rattle.ann_mseal.specs.Ends.{IsSealedUnder, IsUnsealed, IsUnwritten, MayBeSealedUnder, SealsMerged, as_work};
-ghost use Rattle.ann_mseal.specs.Merged.{IsMerged, merged_header, merged_items};
+ghost use Rattle.ann_mpatch.specs.Plan.{IsPlan, source_for};
+ghost use Rattle.ann_mseal.specs.Ends.{HasSealed, IsFault, IsSealable, IsSealedUnder, IsUnsealed, IsUnwritten, LeavesSealed, SealsMerged, as_work};
+ghost use Rattle.ann_mseal.specs.Merged.{merged_header, merged_items};
 ghost use Rattle.ann_mseal.specs.Pieces.{piece_count};
 ghost use Rattle.ann_mseal.specs.Written.{IsSameSegment, IsWriting};
 
@@ -49,12 +47,7 @@ fn begin<V: Vault>(
     book: &Codebook,
     vault: &mut V,
 ) -> Result<SegmentWriter<V::Draft>, WorkRefused>
-    requires plan { IsPlan plan.now }
-    requires entry { IsEntryOf (length plan.now.decoded) entry }
-    requires rising { AreRising (merged_items book.now.book plan.now) }
-    requires components { book.now.d ≡ plan.now.params.d }
-    requires parts { book.now.m ≡ plan.now.params.m }
-    requires codes { HasCodes (segment_in plan.now) plan.now.params.m }
+    requires sealable { IsSealable book.now plan.now entry }
     requires new { V.Seal.tells → map.get (V.held vault.old) number ≡ None }
     ensures begun { IfOk result
         (HasBegun (merged_header plan.now entry number) (merged_items book.now.book plan.now)) }
@@ -172,13 +165,14 @@ fn end<V: Vault>(
     ensures sealed { V.Seal.tells → MatchResult result
         (λ segment. IsSealedUnder V.Seal.number V.Seal.bytes
         writer.header.number segment.seal (V.held vault.old) (V.held vault.new))
-        (λ _. MayBeSealedUnder writer.header.number (V.held vault.old) (V.held vault.new)) }
+        (λ _. MayBeSealed writer.header.number (V.draft_bytes writer.draft)
+        (V.held vault.old) (V.held vault.new)) }
     ensures text { V.Seal.tells →
         IfOk result (λ segment. SealsText writer (V.draft_bytes writer.draft) (V.Seal.bytes segment.seal)) }
     ensures others { V.Seal.tells →
         KeepsOthers V.is_current vault.old vault.new V.draft_number writer.header.number }
     ensures later { V.faults vault.old ≤ V.faults vault.new }
-    ensures refused { IfErr result (IsUnwritten (V.faults vault.old) (V.faults vault.new)) }
+    ensures refused { IfErr result (IsFault (V.faults vault.old) (V.faults vault.new)) }
 {
     match writer.finish(vault) {
         Ok(segment) => Ok(segment),
@@ -194,7 +188,7 @@ fn end<V: Vault>(
 /// # Errors
 ///
 /// `Disk` where the vault or an eye failed, `BadSegment` with a block that an eye read and that is outside the format, or
-/// `Memory`. The draft is gone, and where the vault failed at last the segment may be sealed or not.
+/// `Memory`. The draft is gone, and after `Disk` the segment may be sealed or not.
 pub fn seal_merge<R: Threads + Sync, V: Vault, E: Eye<Seal = V::Seal> + Send, G: Gate + Sync>(
     rt: &R,
     alloc: Global,
@@ -208,25 +202,17 @@ pub fn seal_merge<R: Threads + Sync, V: Vault, E: Eye<Seal = V::Seal> + Send, G:
 ) -> Result<Segment<V::Seal>, WorkRefused>
 where
     V::Seal: Send + Sync,
-    requires plan { IsPlan plan.now }
-    requires entry { IsEntryOf (length plan.now.decoded) entry }
-    requires rising { AreRising (merged_items book.now.book plan.now) }
-    requires components { book.now.d ≡ plan.now.params.d }
-    requires parts { book.now.m ≡ plan.now.params.m }
-    requires codes { HasCodes (segment_in plan.now) plan.now.params.m }
-    requires some { 0 < length eyes.old.items }
-    requires few { length eyes.old.items ≤ 16 }
+    requires sealable { IsSealable book.now plan.now entry }
+    requires workers { (0 < length eyes.old.items) × (length eyes.old.items ≤ 16) }
     requires new { V.Seal.tells → map.get (V.held vault.old) number ≡ None }
+
     ensures eyes { HaveGone E.reads E.faults eyes.old.items eyes.new.items }
-    // Its number, entry, Pids and codes are those of the merged rows.
-    ensures segment { IfOk result (IsMerged book.now.book plan.now entry number) }
-    ensures sealed { V.Seal.tells → MatchResult result
-        (λ segment. IsSealedUnder V.Seal.number V.Seal.bytes
-        number segment.seal (V.held vault.old) (V.held vault.new))
-        (λ _. MayBeSealedUnder number (V.held vault.old) (V.held vault.new)) }
-    // Where the plan is that of a Patch phase, the text of the merged graph is sealed.
-    ensures merged { V.Seal.tells → IfOk result (λ segment. SealsMerged
-        V.Seal.bytes book.now.book plan.now entry number (V.Seal.bytes segment.seal)) }
+    // The merged segment is sealed. A refusal leaves what was sealed, save that after `Disk` the merged text may be too.
+    ensures ends { MatchResult result
+        (HasSealed V.Seal.tells V.Seal.number V.Seal.bytes book.now.book plan.now entry number
+        (V.held vault.old) (V.held vault.new))
+        (λ why. V.Seal.tells → LeavesSealed (SealsMerged V.Seal.bytes book.now.book plan.now entry number)
+        number (V.held vault.old) (V.held vault.new) why) }
     ensures others { V.Seal.tells →
         KeepsOthers V.is_current vault.old vault.new V.draft_number number }
     ensures later { V.faults vault.old ≤ V.faults vault.new }

@@ -1,4 +1,4 @@
-use Rattle.std.proofs.Common.{◌≡◌, ◌++◌, map, ap, length, subst, sym, ◌∙◌, arith, All}
+use Rattle.std.proofs.Common.{◌≡◌, ◌<◌, ◌^◌, ◌++◌, map, ap, length, subst, sym, ◌∙◌, arith, All}
 use Rattle.std.specs.Arc.{arc_value}
 use Rattle.std.proofs.lemmas.List.Elements.{All-append}
 use Rattle.ann_types.specs.declared.new_point.NewPoint.{NewPoint}
@@ -19,6 +19,8 @@ loop-graph-preserved c =
       vectors = subst (All (λ (x : NewPoint). length x.vector ≡ c.args.params.now.d)) (sym c.in_ok-add_graph.ensures.added)
           (All-append (λ (x : NewPoint). length x.vector ≡ c.args.params.now.d) c.loop-graph.points.items (kept_rows gone graph.nodes) c.loop-graph.invariant.vectors
           (λ k d h. c.in_ok-add_graph.ensures.vectors k d h ∙ ap (λ (p : Params). p.d) params));
+      tags = subst (All (λ (x : NewPoint). x.tag < 2 ^ 64)) (sym c.in_ok-add_graph.ensures.added)
+          (All-append (λ (x : NewPoint). x.tag < 2 ^ 64) c.loop-graph.points.items (kept_rows gone graph.nodes) c.loop-graph.invariant.tags c.in_ok-add_graph.ensures.tags);
     }
 
 pub returns-clause-points : goal.returns-clause-points

@@ -22,23 +22,21 @@ finish-requires-clause-may g c κs within =
 
 pub returns-clause-planned : goal.returns-clause-planned
 returns-clause-planned g c =
-    IfOk-weaker c.finish.result _ _ (λ p planned. planned c.args.gone.now c.in_ok-left.ensures.left) c.finish.ensures.planned
-
-pub returns-clause-sound : goal.returns-clause-sound
-returns-clause-sound g c =
+    let index = index_of c.args.params.now c.args.book.now in
+    let gone = c.args.gone.now in
+    let old = option_map arc_value c.args.old.now in
+    let points = c.args.points.items in
     IfOk-weaker c.finish.result _ _
-    (λ p planned. c.planning.ensures.sound (index_of c.args.params.now c.args.book.now) c.args.gone.now (option_map arc_value c.args.old.now) c.args.points.items p.plan p.entry c.requires.may planned)
-    (returns-clause-planned g c)
-
-pub returns-clause-merged : goal.returns-clause-merged
-returns-clause-merged g c = λ told.
-    IfOk-weaker c.finish.result _ _
-    (λ p planned lti holds. c.planning.ensures.merged told (index_of c.args.params.now c.args.book.now) c.args.gone.now (option_map arc_value c.args.old.now) c.args.points.items p.plan p.entry lti c.requires.may planned holds)
-    (returns-clause-planned g c)
+    (λ p planned. (let rows = planned gone c.in_ok-left.ensures.left in record {
+      rows = rows;
+      sound = c.planning.ensures.sound index gone old points p.plan p.entry c.requires.may rows;
+      merge = λ told lti holds. c.planning.ensures.merged told index gone old points p.plan p.entry lti c.requires.may rows holds;
+    }))
+    c.finish.ensures.planned
 
 pub returns-clause-refused : goal.returns-clause-refused
 returns-clause-refused g c =
     IfErr-weaker c.finish.result _ _
     (λ why is. subst (AreCause g.E.Eye.reads g.E.Eye.faults g.S.Sealed.tells (source_of g.S.Sealed.bytes (option_map arc_value c.args.old.now)) c.args.params.now c.args.eyes.now.items c.delete_old.new.eyes.items) (sym is)
-    (eyes_memory g.E.Eye.reads g.E.Eye.faults g.S.Sealed.tells (source_of g.S.Sealed.bytes (option_map arc_value c.args.old.now)) c.args.params.now c.args.eyes.now.items c.delete_old.new.eyes.items c.requires.some))
+    (eyes_memory g.E.Eye.reads g.E.Eye.faults g.S.Sealed.tells (source_of g.S.Sealed.bytes (option_map arc_value c.args.old.now)) c.args.params.now c.args.eyes.now.items c.delete_old.new.eyes.items c.requires.workers.0))
     c.finish.ensures.refused

@@ -12,8 +12,8 @@ start-requires-clause-front g c =
     subst (λ (h : Header). AreFront h c.in_ok-directory.directory) (sym c.header_of.ensures)
     (subst (AreFront (merged_header plan c.args.entry c.args.number)) (sym c.in_ok-directory.ensures.items)
     (record {
-      sound = is_header plan c.args.entry c.args.number c.requires.entry;
-      count = items_count c.args.book.now.book plan c.requires.plan;
-      rising = c.requires.rising;
+      sound = is_header plan c.args.entry c.args.number c.requires.sealable.entered;
+      count = items_count c.args.book.now.book plan c.requires.sealable.sound;
+      rising = c.requires.sealable.rising;
       codes = c.in_ok-directory.ensures.codes;
     }))

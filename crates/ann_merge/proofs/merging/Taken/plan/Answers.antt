@@ -27,5 +27,5 @@ returns-clause-planned g c =
     let points = c.in_ok-points.ensures.points ∙ ap (λ fs. new_of t.gone (map arc_value fs)) c.deref.ensures.value in
     let book = ap (λ (b : CodebookView). b.book) c.deref-3.ensures in
     subst (λ o. IfOk c.plan_merge.result (λ p. IsPlanFor g.S.Sealed.tells g.S.Sealed.bytes o p.plan p.entry)) c.self.view_is
-    (plans_for g.S.Sealed.bytes order c.self.invariant g.S.Sealed.tells (λ p. p.plan) (λ p. p.entry) c.plan_merge.result c.deref-3.result.now.book c.in_ok-points.points.items book points
-    (c.plan_merge.ensures.planned, c.plan_merge.ensures.sound, c.plan_merge.ensures.merged))
+    (plans_for g.S.Sealed.bytes order c.self.invariant g.S.Sealed.tells (λ p. p.plan) (λ p. p.entry) c.plan_merge.result c.deref-3.result.now.book c.in_ok-points.points.items book points (c.in_ok-points.ensures.vectors, c.in_ok-points.ensures.tags)
+    c.plan_merge.ensures.planned)
