@@ -1,0 +1,5 @@
+pub mod Kept
+pub mod Before
+pub mod Lasts
+pub mod Ended
+pub mod Taken
