@@ -1,0 +1,5 @@
+mod Lines
+mod Listed
+mod Steps
+pub mod Prefixes
+pub mod Begins

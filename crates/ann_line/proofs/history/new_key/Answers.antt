@@ -1,0 +1,16 @@
+use Rattle.std.proofs.Common.{sym, ◌∙◌, ap}
+use Rattle.ann_line.specs.Steps.{no_link}
+use Rattle.ann_line.proofs.Steps.{makes}
+use Rattle.ann_line.proofs.history.new_key.Goals as goal
+
+pub compare_exchange-found-requires : goal.compare_exchange-found-requires
+compare_exchange-found-requires c =
+    let h = c.requires in
+    let offer = c.plain-offer.ensures in
+    let pen = c.no_pen-pen.ensures in (
+      ap (λ w. w.tracked) h,
+      sym (ap (λ w. w.book) h),
+      pen.0 ∙ sym (ap (λ w. w.book) h),
+      offer.0,
+      rw (ap (λ w. w.key) h, pen.1, offer.3) (makes c.args.seen.now.log no_link),
+    )
