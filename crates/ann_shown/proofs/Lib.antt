@@ -1,0 +1,2 @@
+mod Next
+pub mod Growing

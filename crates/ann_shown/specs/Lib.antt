@@ -1,0 +1,4 @@
+pub mod States
+pub mod Rising
+pub mod Publishing
+pub mod Unnamed
