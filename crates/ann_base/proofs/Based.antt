@@ -69,10 +69,10 @@ no_base tells bytes held params number next grounded zero_is none pids = record 
 
 -- ---- refusals of a base's segment
 
-pub front_refused : (held : Holding) (params : Params) (number next : ℕ) (why : BaseRefused) → IsFrontRefused held params number next why → IsBaseRefused held params number next why
-front_refused held params number next (BadSegment block) is = record { fault = inl is.fault; no_text = λ book graph sealed base. is.no_text book graph sealed base.pids }
-front_refused held params number next Disk is = tt
-front_refused held params number next Memory is = tt
+pub front_refused : (held : Holding) (params : Params) (number next : ℕ) → number ≢ 0 → (why : BaseRefused) → IsFrontRefused held params number next why → IsBaseRefused held params number next why
+front_refused held params number next some (BadSegment block) is = record { named = some; fault = inl is.fault; no_text = λ book graph sealed base. is.no_text book graph sealed base.pids }
+front_refused held params number next some Disk is = tt
+front_refused held params number next some Memory is = tt
 
 has_row_before : (f : ℕ → ℕ) (a n t : ℕ) → has (map f (range_with_len a n)) t ≡ true → (q : ℕ) × (a ≤ q) × (q < a + n) × (f q ≡ t)
 has_row_before f a zero t h = absurd (false≢true h)
@@ -123,13 +123,14 @@ module _ {S : Type 0} (tells : Type 0) (bytes : S → List ℕ) (held : Holding)
             base.tags got.0 w.row blank (omega arith) (omega arith) (sym (tag_at got.0 (omega arith)) ∙ got.3 ∙ tag_at w.row within)
       ]
 
-  pub nodes_refused : (why : BaseRefused) → IsLoadRefused segment params seal why → tells → IsBaseRefused held params number next why
-  nodes_refused (BadSegment block) is told = record {
+  pub nodes_refused : number ≢ 0 → (why : BaseRefused) → IsLoadRefused segment params seal why → tells → IsBaseRefused held params number next why
+  nodes_refused some (BadSegment block) is told = record {
+    named = some;
     fault = inr (seal, sound_front tells bytes held params number next segment opened.found opened told, subst (λ (v : SegmentView (List ℕ)). IsFirstBadNode v params seal block) (same_view told) (node_again block is));
     no_text = λ book graph sealed base. no_bad_node block is told book graph sealed base;
   }
-  nodes_refused Disk is told = tt
-  nodes_refused Memory is told = tt
+  nodes_refused some Disk is told = tt
+  nodes_refused some Memory is told = tt
 
   -- ---- the base
 

@@ -36,9 +36,10 @@ pub record IsBase {S : Type 0} (tells : Type 0) (bytes : S → List ℕ) (held :
   pub tags : grounded.tags.pids ≡ map_of (names_of graph.points)
   pub segment : MatchOption grounded.segment (number ≡ 0) (IsSegmentOf tells bytes held params number next graph)
 
--- the first block of a base's segment at fault is named; and there is none where the text of a graph is sealed that is one of
--- a base
+-- there is a segment, and its first block at fault is named; and there is none where the text of a graph is sealed that is one
+-- of a base
 pub record IsRightlyRefused (held : Holding) (params : Params) (number next block : ℕ) : Type 0 where
+  pub named : number ≢ 0
   pub fault : IsBaseFault held params number next block
   pub no_text : (book : Book) (graph : Graph) → IsSealedAs held params number book graph → IsBaseOf params (base_over 0 next number graph) → ⊥
 

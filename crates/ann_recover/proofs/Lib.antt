@@ -12,3 +12,4 @@ pub mod Sounding
 pub mod Saying
 pub mod Placing
 pub mod Summing
+pub mod NeverBad

@@ -1,10 +1,13 @@
 // Looking into an index without a change.
 ghost use Rattle.std.specs.Prelude.{◌≡◌, true, IfOk, IfErr};
+ghost use Rattle.ann_types.specs.declared.params.Params.{Params};
+ghost use Rattle.ann_pq.specs.Codebook.{CodebookView};
 ghost use Rattle.ann_base.specs.Causes.{AreCounted as AreSealsCounted, counts_of};
 ghost use Rattle.ann_log.specs.Told.{AreSame};
 ghost use Rattle.ann_preamble.specs.Base.{is_base};
-ghost use Rattle.ann_recover.specs.Causes.{AreCounted, faults_of};
+ghost use Rattle.ann_recover.specs.Causes.{AreCounted, IsOfStore, faults_of};
 ghost use Rattle.ann_recover.specs.Inspected.{IsInspected, IsNotInspected, IsSummed, IsSumRefused, segment_named};
+ghost use Rattle.ann_recover.specs.Places.{IsSoundPlace};
 
 use crate::refused::RecoverWhy;
 use crate::verify::verify;
@@ -42,6 +45,9 @@ pub fn inspect<F: LogFile, V: Vault, E: Eye<Seal = V::Seal>>(
         (V.held vault.old) files.old) }
     ensures refused { IfErr result (IsNotInspected F.LogFile V.Seal.tells V.Seal.bytes
         (V.held vault.old) files.old) }
+    // A sound place is never refused as bad.
+    ensures never_bad { F.tells → V.Seal.tells → (params : Params) (book : CodebookView)
+        → IsSoundPlace F.LogFile files.old (V.held vault.old) params book → IfErr result IsOfStore }
     ensures same { AreSame F.LogFile files.old files.new }
     ensures held { V.Seal.tells → V.held vault.new ≡ V.held vault.old }
     ensures cause { AreCounted RecoverWhy.Disk result

@@ -5,7 +5,7 @@ ghost use Rattle.ann_pq.specs.Codebook.{CodebookView};
 ghost use Rattle.ann_log.specs.LogView.{files_of};
 ghost use Rattle.ann_log.specs.Pairs.{EachPair, LeavePairs};
 ghost use Rattle.ann_log.specs.Told.{LeaveFiles};
-ghost use Rattle.ann_recover.specs.Causes.{IsCounted};
+ghost use Rattle.ann_recover.specs.Causes.{IsCounted, IsOfStore};
 ghost use Rattle.ann_recover.specs.Fresh.{IsFresh, held_with};
 ghost use Rattle.ann_recover.specs.Loaded.{IsLoadRefused};
 ghost use Rattle.ann_recover.specs.Places.{IsKeptList, StandKept, IsSoundPlace};
@@ -60,6 +60,10 @@ pub fn recover<F: LogFile, V: Vault, E: Eye<Seal = V::Seal>>(
         (StandKept (V.held vault) params book))
         (λ refused. LeavePairs F.past F.unsynced files refused.files
         (StandKept (V.held vault) params book)) }
+    // And it is never refused as bad.
+    ensures never_bad { F.tells → V.Seal.tells → (params : Params) (book : CodebookView)
+        → IsSoundPlace F.LogFile files (V.held vault) params book
+        → IfErr result (λ refused. IsOfStore refused.why) }
     // A success is no fault, and `Disk` is one call of one device that failed. The further eyes are as they were.
     ensures cause { (first : E) (rest : List E) → eyes.items ≡ first ∷ rest → MatchResult result
         (λ parts. IsCounted F.faults E.faults ⊥ files (V.faults vault) first rest

@@ -1,6 +1,7 @@
 use Rattle.ann_log.proofs.Results.{if_ok, if_err}
 use Rattle.ann_log.specs.LogView.{files_of}
 use Rattle.ann_recover.specs.Fresh.{held_with}
+use Rattle.ann_recover.proofs.NeverBad.{never_load}
 use Rattle.ann_recover.proofs.Opening.{has_stood, not_recovered}
 use Rattle.ann_recover.proofs.Placing.{counted_from, read_during, left_during, place_of, place_with, kept_read, index_read, kept_during, refused_kept}
 use Rattle.ann_recover.proofs.Results.{both}
@@ -50,6 +51,14 @@ returns-in-Ok-clause-kept g c told seals params book sound =
     (λ parts w. kept_during g.F.LogFile g.V.Seal.Sealed.tells g.V.Seal.Sealed.bytes (g.V.Vault.held c.args.vault) c.args.files params book told sound seals (files_of parts.log) (left_during g.F.LogFile g.V.Seal.Sealed.tells g.V.Seal.Sealed.bytes (g.V.Vault.held c.args.vault) c.args.files c.in-Ok.log c.in-Ok.entries c.in-Ok.ensures.opened (files_of parts.log) w))
     (λ refused w. kept_during g.F.LogFile g.V.Seal.Sealed.tells g.V.Seal.Sealed.bytes (g.V.Vault.held c.args.vault) c.args.files params book told sound seals refused.files (left_during g.F.LogFile g.V.Seal.Sealed.tells g.V.Seal.Sealed.bytes (g.V.Vault.held c.args.vault) c.args.files c.in-Ok.log c.in-Ok.entries c.in-Ok.ensures.opened refused.files w))
     c.open_list.ensures.during
+
+pub returns-in-Ok-clause-never_bad : goal.returns-in-Ok-clause-never_bad
+returns-in-Ok-clause-never_bad g c told seals params book sound =
+    let stood = has_stood g.F.LogFile g.V.Seal.Sealed.tells g.V.Seal.Sealed.bytes (g.V.Vault.held c.args.vault) c.args.files c.in-Ok.log c.in-Ok.entries c.in-Ok.ensures.opened in
+    if_err c.open_list.result _ _
+    (λ refused w. never_load g.V.Seal.Sealed.tells g.V.Seal.Sealed.bytes (g.V.Vault.held c.args.vault) (held_with c.in-Ok.log c.in-Ok.entries) seals
+    (kept_read g.F.LogFile g.V.Seal.Sealed.tells g.V.Seal.Sealed.bytes (g.V.Vault.held c.args.vault) c.args.files params book told sound (held_with c.in-Ok.log c.in-Ok.entries) c.in-Ok.log.generation stood) refused.why w)
+    c.open_list.ensures.refused
 
 pub returns-in-Err-clause-during : goal.returns-in-Err-clause-during
 returns-in-Err-clause-during g c = read_during g.F.LogFile g.V.Seal.Sealed.tells g.V.Seal.Sealed.bytes (g.V.Vault.held c.args.vault) c.args.files c.in-Err.refused.files c.in-Err.ensures.refused.during
