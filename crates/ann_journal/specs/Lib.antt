@@ -1,0 +1,4 @@
+pub mod Journal
+pub mod Logged
+pub mod Safe
+pub mod Updated
