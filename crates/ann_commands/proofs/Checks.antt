@@ -32,6 +32,7 @@ no_memory D old new ended other has = record {
   parts = has.parts;
   inspected = tt;
   refused = tt;
+  never_bad = λ told seals params book sound. tt;
   same = has.same;
   held = has.held;
   stores = record { calm = tt; caused = record { failed = λ is. absurd cc; calm = λ _. calm_memory ended _ _ other has.stores } };

@@ -4,3 +4,4 @@ pub mod Ends
 pub mod Eyes
 pub mod InitWords
 pub mod Paying
+pub mod Sound

@@ -1,11 +1,14 @@
 -- How `check` ends.
 use Rattle.std.specs.Prelude.{◌≡◌, ℕ, List, ◌++◌, Option, None, Some, Result, Ok, Err, IfOk, IfErr, codes, decimal}
+use Rattle.ann_types.specs.declared.params.Params.{Params}
 use Rattle.ann_disk.specs.declared.file.LogFile.{Ghosts}
 use Rattle.ann_log.specs.Told.{AreSame}
 use Rattle.ann_log.specs.declared.files.Files.{Files}
+use Rattle.ann_pq.specs.Codebook.{CodebookView}
 use Rattle.ann_vault.specs.Held.{Holding}
-use Rattle.ann_recover.specs.Causes.{AreCounted, faults_of}
+use Rattle.ann_recover.specs.Causes.{AreCounted, IsOfStore, faults_of}
 use Rattle.ann_recover.specs.Inspected.{IsInspected, IsNotInspected}
+use Rattle.ann_recover.specs.Places.{IsSoundPlace}
 use Rattle.ann_recover.specs.declared.looking.Summary.{Summary}
 use Rattle.ann_recover.specs.declared.refused.RecoverWhy.{RecoverWhy}
 use Rattle.ann_recover.specs.declared.refused.RecoverWhy.TheVariants as why
@@ -70,6 +73,8 @@ pub record HasChecked {F V E S : Type 0} (D : Devices F V E S) (old new : Place 
   pub parts : GetsParts old new before after vault vault' eye eye'
   pub inspected : IfOk ended (IsInspected D.log D.tells D.bytes (D.held vault) before)
   pub refused : IfErr ended (IsNotInspected D.log D.tells D.bytes (D.held vault) before)
+  -- a sound place is never refused as bad
+  pub never_bad : D.log.tells → D.tells → (params : Params) (book : CodebookView) → IsSoundPlace D.log before (D.held vault) params book → IfErr ended IsOfStore
   pub same : AreSame D.log before after
   pub held : D.tells → D.held vault' ≡ D.held vault
   -- a call of a device failed exactly where it says so

@@ -10,6 +10,11 @@ use Rattle.ann_disk.specs.declared.file.LogFile.{Ghosts}
 use Rattle.ann_log.specs.Causes.{HaveCauses}
 use Rattle.ann_log.specs.declared.files.Files.{Files}
 use Rattle.ann_init.specs.Ends.{HasMade, IsRefusedFor}
+use Rattle.ann_init.specs.Input.{ReadsBook}
+use Rattle.ann_log.specs.Making.{base_alone}
+use Rattle.ann_preamble.specs.Preamble.{no_base}
+use Rattle.ann_recover.specs.Places.{IsSoundPlace}
+use Rattle.ann_vault.specs.Held.{Holding}
 use Rattle.ann_init.specs.declared.refused.BookFault.{BookFault}
 use Rattle.ann_init.specs.declared.refused.BookFault.TheVariants as book
 use Rattle.ann_init.specs.declared.refused.InitWhy.{InitWhy}
@@ -87,6 +92,13 @@ HappensAway words left left' NoMemory = (params : Params) × IsOnce words params
 HappensAway words left left' (Init ended) = ⊥
 HappensAway words left left' (Check ended) = ⊥
 
+-- The files are a sound place of an index without entries, with these parameters and the codebook that was read; whatever a
+-- vault holds, since the empty list names no segment.
+pub record IsSoundlyMade {F : Type 0} (D : Ghosts F) (p : Params) (left left' : Option (List ℕ)) (files : Files F) : Type 0 where
+  pub bytes : List ℕ
+  pub book : ReadsBook p left left' bytes
+  pub sound : D.tells → (held : Holding) → IsSoundPlace D files held p (base_alone p bytes no_base).book
+
 module _ {F V E : Type 0} (D : Ghosts F) where
   -- `init` with these parameters ended so in a place, which has its files again, and all else as it was
   pub record HasInited (p : Params) (left left' : Option (List ℕ)) (old new : Place F V E) (ended : Result (Unit {0}) InitWhy) : Type 0 where
@@ -94,6 +106,7 @@ module _ {F V E : Type 0} (D : Ghosts F) where
     pub after : Files F
     pub files : GetsFiles old new before after
     pub made : OnOk ended (HasMade D p left left' before after)
+    pub sound : OnOk ended (IsSoundlyMade D p left left' after)
     pub refused : IfErr ended (IsRefusedFor D p left left' before after)
     -- a call of the files failed exactly where it says so
     pub stores : HaveCauses D before after why.StoreFault ended

@@ -30,6 +30,7 @@ returns-clause-ended g c =
       };
       inspected = c.inspect-result.ensures.inspected;
       refused = c.inspect-result.ensures.refused;
+      never_bad = c.inspect-result.ensures.never_bad;
       same = c.inspect-result.ensures.same;
       held = c.inspect-result.ensures.held;
       stores = c.inspect-result.ensures.cause;

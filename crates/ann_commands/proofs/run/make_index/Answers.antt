@@ -1,4 +1,5 @@
 use Rattle.std.proofs.Common.{refl}
+use Rattle.ann_commands.proofs.Sound.{soundly}
 use Rattle.ann_commands.proofs.run.make_index.Goals as goal
 
 pub returns-clause-ended : goal.returns-clause-ended
@@ -11,6 +12,7 @@ returns-clause-ended g c = record {
     is = refl;
   };
   made = c.init-result.ensures.made;
+  sound = soundly g.F.LogFile c.args.params.now _ _ _ c.init-result.result.files c.init-result.result.result c.init-result.ensures.made;
   refused = c.init-result.ensures.refused;
   stores = c.init-result.ensures.stores;
 }
