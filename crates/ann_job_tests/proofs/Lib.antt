@@ -1,1 +1,2 @@
 pub mod AllPids
+pub mod Ended

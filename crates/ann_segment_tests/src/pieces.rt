@@ -1,7 +1,9 @@
 ghost use Rattle.std.specs.Prelude.{◌≡◌, ◌<◌, length, IfOk};
 
-use crate::points::{params, put, segment, two_points};
-use ann_mdelete::{Loaded, WorkRefused, load_piece};
+use crate::points::{codebook, params, put, segment, two_points};
+use ann_dead::Dead;
+use ann_mdelete::{Decoded, Lists, Loaded, WorkRefused, load_piece};
+use ann_mplan::{decode_rows, deleted_rows, read_lists};
 use ann_segment::Segment;
 use ann_vault::{MemoryEye, MemorySeal};
 use std::alloc::Global;
@@ -25,7 +27,8 @@ const REFUSED: [Case; 8] = [
 
 // The segment of 10 and 20, one byte of which is another.
 fn changed(alloc: Global, change: (usize, u8)) -> Result<Segment<MemorySeal>, Fail>
-    ensures { IfOk result (λ segment. 0 < length segment.items) }
+    ensures some { IfOk result (λ segment. 0 < length segment.items) }
+    ensures codes { IfOk result (λ segment. segment.m ≡ 1) }
 {
     let mut bytes = two_points(alloc, 5, [10, 20], [10, 20])?;
     put(&mut bytes, &[change]);
@@ -91,5 +94,50 @@ fn a_piece_has_tags_and_lists(rt: HostRuntime) -> Result<(), Fail> {
         && piece.list(0) == [1].as_slice()
         && piece.list(1) == [0].as_slice();
     assert!(rt; read);
+    Ok(())
+}
+
+// The lists of all rows of the segment, read by an eye of which a call fails.
+fn lists(alloc: Global, failing: u64) -> Result<Result<Lists, WorkRefused>, Fail> {
+    let segment = changed(alloc, (0, b'A'))?;
+    let mut eye = MemoryEye::new(alloc, &[failing])?;
+    let mut piece = Loaded::new(alloc)?;
+    let mut lists = Lists::new(alloc);
+    match read_lists(&segment, &mut eye, &params(100)?, &mut piece, &mut lists) {
+        Ok(()) => Ok(Ok(lists)),
+        Err(why) => Ok(Err(why)),
+    }
+}
+
+// The decoded vectors of its rows, by a codebook whose centroids are even, where the code of the second row is 21.
+fn decoded(alloc: Global) -> Result<Decoded, Fail> {
+    let segment = changed(alloc, (4105, 21))?;
+    Ok(decode_rows(alloc, &segment, &codebook(alloc, 0xFE)?)?)
+}
+
+// Which of its rows are deleted, where the second is.
+fn deleted(alloc: Global) -> Result<Vec<bool>, Fail> {
+    let segment = changed(alloc, (0, b'A'))?;
+    let mut dead = Dead::new(alloc);
+    dead.add(1)?;
+    Ok(deleted_rows(alloc, &segment, &dead)?)
+}
+
+#[test]
+fn a_merge_reads_lists_codes_and_deletes(rt: HostRuntime) -> Result<(), Fail> {
+    let alloc = rt.alloc();
+    let Ok(lists) = lists(alloc, 2)? else {
+        return Err("refused lists".into());
+    };
+    assert!(rt;
+        lists.len() == 2 && lists.get(0) == [1].as_slice() && lists.get(1) == [0].as_slice()
+    );
+    let decoded = decoded(alloc)?;
+    assert!(rt;
+        decoded.len() == 2
+            && decoded.vector(0) == [10].as_slice()
+            && decoded.vector(1) == [20].as_slice()
+    );
+    assert!(rt; deleted(alloc)?.as_slice() == [false, true].as_slice());
     Ok(())
 }
