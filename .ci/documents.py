@@ -237,7 +237,7 @@ def check_paths():
                 yield f"{document} names {path}, which doesn't exist"
         for line in text.split("\n"):
             heading = line if line.startswith("#") else heading
-            crates = re.findall(r"\bann_[a-z]+", heading + line)
+            crates = re.findall(r"\bann_[a-z_]+", heading + line)
             for path in re.findall(r"`(?!ann_|crates/)([\w/]+\.(?:rt|antt))`", line):
                 if crates and not any(glob.glob(f"crates/{crate}/**/{path}", recursive=True) for crate in crates):
                     yield f"{document} names {path}, which none of {', '.join(crates)} has"
