@@ -1,5 +1,5 @@
 -- The segment of a base: its blocks, and the graph of its nodes.
-use Rattle.std.proofs.Common.{◌≡◌, ◌≢◌, ◌≤◌, ◌<◌, ℕ, zero, suc, ◌+◌, ◌%◌, ◌⊎◌, Bool, true, false, eqb-true, List, [], ◌∷◌, None, inl, inr, refl, sym, ap, ap₂, subst, ◌∙◌, arith, map, length, get_or}
+use Rattle.std.proofs.Common.{◌≡◌, ◌≢◌, ◌≤◌, ◌<◌, ℕ, zero, suc, ◌+◌, ◌%◌, ◌⊎◌, true, eqb-true, List, [], None, inl, inr, refl, sym, ap, ap₂, subst, ◌∙◌, arith, map, length}
 use Rattle.std.specs.Prelude.{Option, Some, MatchOption}
 use Rattle.std.specs.List.{range_with_len}
 use Rattle.std.specs.FinMap.{empty}
@@ -7,34 +7,35 @@ use Rattle.std.proofs.lemmas.Bool.{false≢true}
 use Rattle.std.proofs.lemmas.List.FromFn.{length-map-range_with_len}
 use Rattle.ann_types.specs.Codes.{Book}
 use Rattle.ann_types.specs.Graph.{Point, Graph, empty_graph}
-use Rattle.ann_types.specs.Lists.{IsBaseOf, names_of}
+use Rattle.ann_types.specs.Lists.{IsBaseOf}
 use Rattle.ann_types.specs.Order.{has}
 use Rattle.ann_types.specs.declared.params.Params.{Params}
 use Rattle.ann_types.proofs.Graphs.{empty_is_graph}
 use Rattle.ann_types.proofs.Ordered.{has_cases}
 use Rattle.ann_vault.specs.Held.{Holding}
 use Rattle.ann_block.specs.Node.{NodeFields}
-use Rattle.ann_mdelete.specs.Loaded.{LoadedView, IsPiece, piece_rows}
+use Rattle.ann_mdelete.specs.Loaded.{LoadedView, IsPiece}
 use Rattle.ann_mdelete.specs.Refusals.{Counts, IsUnloaded}
 use Rattle.ann_mdelete.specs.declared.refused.WorkRefused.{WorkRefused}
 use Rattle.ann_mdelete.specs.declared.refused.WorkRefused.TheVariants as work
 use Rattle.ann_segment.specs.Directory.{Item}
 use Rattle.ann_segment.specs.Holds.{Holds}
+use Rattle.ann_segment.specs.Rows.{node_in}
 use Rattle.ann_segment.specs.Segment.{SegmentView, IsSegment}
 use Rattle.ann_segment.proofs.Holding.{point_at, holds_count, holds_row}
 use Rattle.ann_tags.specs.Tags.{Pids, map_of}
-use Rattle.ann_base.specs.Faults.{segment_in, IsFormed, tag_in, repeats, AreSoundRows, IsFirstUnformed, IsFirstRepeat, IsFirstBadNode, IsSoundBase}
-use Rattle.ann_base.specs.Front.{IsSealedAs, IsFound, IsOpenedBelow, IsRightly, IsFrontRefused}
-use Rattle.ann_base.specs.Grounded.{base_over, IsSegmentOf, IsBase, IsRightlyRefused, IsBaseRefused}
-use Rattle.ann_base.specs.Nodes.{AreNodes, graph_in}
+use Rattle.ann_base.specs.Faults.{segment_in, tag_in, AreSoundRows, IsFirstUnformed, IsFirstRepeat, IsFirstBadNode, IsSoundBase}
+use Rattle.ann_base.specs.Front.{IsSealedAs, IsOpenedBelow, IsFrontRefused}
+use Rattle.ann_base.specs.Grounded.{base_over, IsSegmentOf, IsBase, IsBaseRefused}
+use Rattle.ann_base.specs.Nodes.{graph_in}
 use Rattle.ann_base.specs.Refusal.{of_work}
-use Rattle.ann_base.specs.Tagged.{HasTags, HasNodes, HasFirst, HasAll, IsLoadRefused, IsAddRefused}
+use Rattle.ann_base.specs.Tagged.{HasTags, HasNodes, HasAll, IsLoadRefused}
 use Rattle.ann_base.specs.declared.base.Grounded.{Grounded}
 use Rattle.ann_base.specs.declared.refused.BaseRefused.{BaseRefused}
 use Rattle.ann_base.specs.declared.refused.BaseRefused.TheVariants.{BadSegment, Disk, Memory}
 use Rattle.ann_base.proofs.Fronts.{sound_front}
 use Rattle.ann_base.proofs.Grounding.{pids_are, names_are, base_is, graph_back}
-use Rattle.ann_base.proofs.Reading.{bad_block, bad_tag, sound_rows}
+use Rattle.ann_base.proofs.Reading.{bad_block, sound_rows}
 use Rattle.ann_base.proofs.Tagging.{no_tags}
 
 -- ---- refusals of a piece
@@ -149,6 +150,7 @@ module _ {S : Type 0} (tells : Type 0) (bytes : S → List ℕ) (held : Holding)
       named = some;
       opened = opened;
       pids = pids_are segment params w.nodes w.are.sound w.many known;
+      nodes = λ told. ap (graph_in segment) (w.are.told told ∙ ap (λ (n : ℕ). map (node_in segment seal params.d) (range_with_len 0 n)) w.many);
       sound = all_sound;
       sealed = λ told book other sealed.
           graph_back params book seal segment other (opened.found.graph told book other sealed) sealed.fits.belongs.parts w.nodes (w.are.told told) w.many;

@@ -1,18 +1,16 @@
 -- Segments by their numbers: what is sealed, and what was opened.
-use Rattle.std.proofs.Common.{◌≡◌, ◌≤◌, ◌<◌, ℕ, zero, suc, List, [], ◌∷◌, refl, sym, ap, subst, ◌∙◌, arith, map, length, get_or, inl, inr, ◌+◌, ◌*◌, ◌/◌}
-use Rattle.std.specs.Prelude.{Option, Some, None, All, MatchOption}
-use Rattle.std.specs.FinMap.{get}
+use Rattle.std.proofs.Common.{◌≡◌, ◌≤◌, ◌<◌, ℕ, zero, suc, List, [], ◌∷◌, refl, ap, subst, ◌∙◌, arith, map, length, get_or, inr, ◌+◌, ◌*◌, ◌/◌}
+use Rattle.std.specs.Prelude.{Option, Some, All}
 use Rattle.ann_types.specs.Codes.{Book, code}
-use Rattle.ann_types.specs.Graph.{Point, Graph}
+use Rattle.ann_types.specs.Graph.{Point}
 use Rattle.ann_types.specs.declared.params.Params.{Params}
 use Rattle.ann_vault.specs.Held.{Holding}
 use Rattle.ann_segment.specs.Directory.{Item, item_of}
 use Rattle.ann_segment.specs.Segment.{SegmentView}
-use Rattle.ann_segment.specs.Opening.{IsFront, IsOpenedFrom}
+use Rattle.ann_segment.specs.Opening.{IsOpenedFrom}
 use Rattle.ann_segment.specs.Holds.{Holds}
-use Rattle.ann_segment.specs.Text.{segment_text, items_for}
-use Rattle.ann_base.specs.Faults.{segment_in, AreBelow, IsFirstHigh, IsFrontFault, IsSoundFront}
-use Rattle.ann_base.specs.Front.{IsSealedAs, IsFound, IsOpenedBelow, IsRightly}
+use Rattle.ann_base.specs.Faults.{segment_in, AreBelow, IsFirstHigh, IsSoundFront}
+use Rattle.ann_base.specs.Front.{IsFound, IsOpenedBelow, IsRightly}
 
 -- ---- items
 

@@ -1,15 +1,15 @@
 -- The graph of a segment's nodes, and what it is where the segment holds a graph.
-use Rattle.std.proofs.Common.{◌≡◌, ◌≢◌, ◌≤◌, ◌<◌, ℕ, zero, suc, ◌+◌, Bool, true, false, eqb, eq-eqb, eqb-true, List, [], ◌∷◌, inl, inr, refl, sym, ap, ap₂, subst, ◌∙◌, arith, map, take, length, get_or, AllPairs}
-use Rattle.std.specs.Prelude.{Option, Some, None, All, MatchOption}
+use Rattle.std.proofs.Common.{◌≡◌, ◌≢◌, ◌≤◌, ◌<◌, ℕ, zero, suc, ◌+◌, true, eq-eqb, eqb-true, List, [], ◌∷◌, inl, inr, refl, sym, ap, ap₂, subst, ◌∙◌, arith, map, take, length, get_or, AllPairs}
+use Rattle.std.specs.Prelude.{Option, Some, None, All}
 use Rattle.std.specs.List.{range_with_len, zip, AllByRecursion}
 use Rattle.std.specs.Option.{option_map}
 use Rattle.std.proofs.lemmas.Bool.{false≢true, both_ways, cases_order}
 use Rattle.std.proofs.lemmas.List.{length-map, get_or-map}
 use Rattle.std.proofs.lemmas.List.Elements.{recursion_from_All}
 use Rattle.std.proofs.lemmas.List.FromFn.{get_or-map-range_with_len, fill_by_all}
-use Rattle.ann_types.specs.Codes.{Book, code}
+use Rattle.ann_types.specs.Codes.{Book}
 use Rattle.ann_types.specs.Graph.{Point, Graph, pids_of, IsGraphOf}
-use Rattle.ann_types.specs.Lists.{IsBaseOf, Names, names_of}
+use Rattle.ann_types.specs.Lists.{IsBaseOf, names_of}
 use Rattle.ann_types.specs.Order.{has}
 use Rattle.ann_types.specs.Rows.{pid_at}
 use Rattle.ann_types.specs.declared.params.Params.{Params}
@@ -19,7 +19,7 @@ use Rattle.ann_types.proofs.Renamed.{Below, IsRise}
 use Rattle.ann_types.proofs.Rowed.{pids_rise_at, has_pid_at, pid_of_at}
 use Rattle.ann_types.proofs.Sets.{Rises, rises_from_increasing, not_among}
 use Rattle.ann_block.specs.Node.{NodeFields}
-use Rattle.ann_segment.specs.Directory.{Item, item_of}
+use Rattle.ann_segment.specs.Directory.{Item}
 use Rattle.ann_segment.specs.Holds.{Holds}
 use Rattle.ann_segment.specs.Segment.{SegmentView, IsSegment, IsEntryOf}
 use Rattle.ann_segment.specs.Rows.{node_in}

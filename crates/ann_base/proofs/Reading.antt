@@ -1,8 +1,8 @@
 -- Nodes of a segment's rows, piece by piece, and the first block of them that is at fault.
-use Rattle.std.proofs.Common.{◌≡◌, ◌≢◌, ◌≤◌, ◌<◌, ℕ, zero, suc, ◌+◌, ◌-◌, ◌*◌, ◌/◌, ◌%◌, min, Bool, true, false, List, [], ◌∷◌, ◌++◌, None, inl, inr, refl, sym, ap, ap₂, subst, ◌∙◌, arith, map, take, length, get_or, length-append}
+use Rattle.std.proofs.Common.{◌≡◌, ◌≤◌, ◌<◌, ℕ, zero, suc, ◌+◌, ◌-◌, ◌%◌, List, [], ◌∷◌, ◌++◌, None, inl, inr, refl, sym, ap, ap₂, subst, ◌∙◌, arith, map, take, length, get_or, length-append}
 use Rattle.std.specs.List.{range_with_len}
 use Rattle.std.proofs.lemmas.Bool.{cases_lt}
-use Rattle.std.proofs.lemmas.List.{map-append, length-map, take_all}
+use Rattle.std.proofs.lemmas.List.{map-append, length-map}
 use Rattle.std.proofs.lemmas.List.FromFn.{length-map-range_with_len, get_or-map-range_with_len, take-map-range_with_len, fill_by_all}
 use Rattle.ann_types.specs.Order.{has}
 use Rattle.ann_types.specs.Rows.{AreNeighbours}
@@ -11,14 +11,14 @@ use Rattle.ann_bytes.proofs.Numbered.{length-field}
 use Rattle.ann_block.specs.Node.{NodeFields, node_of, node_rules, judge_node}
 use Rattle.ann_block.proofs.Rules.{same, all_met}
 use Rattle.ann_segment.specs.Segment.{SegmentView, node_block}
-use Rattle.ann_segment.specs.Rows.{block_at, row_block, node_in, judged}
+use Rattle.ann_segment.specs.Rows.{block_at, node_in, judged}
 use Rattle.ann_mdelete.specs.Loaded.{LoadedView, IsPiece, node_on, piece_rows, piece_bytes}
 use Rattle.ann_mdelete.specs.Refusals.{IsBadRow}
 use Rattle.ann_mdelete.proofs.Held.{page_block}
 use Rattle.ann_tags.specs.Tags.{Pids}
 use Rattle.ann_base.specs.Faults.{IsFormed, tag_in, repeats, AreSoundRows, piece_start, piece_end, IsFirstBadNode}
 use Rattle.ann_base.specs.Nodes.{AreNodes, no_node, tags_of}
-use Rattle.ann_base.specs.Tagged.{AreDistinct, HasTags, IsRepeatOf, HasNodes}
+use Rattle.ann_base.specs.Tagged.{HasTags, IsRepeatOf, HasNodes}
 
 -- ---- lists
 

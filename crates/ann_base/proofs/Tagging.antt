@@ -1,11 +1,11 @@
 -- Tags added one after the other, each with its Pid.
-use Rattle.std.proofs.Common.{◌≡◌, ◌≢◌, ◌≤◌, ◌<◌, ℕ, zero, suc, ◌+◌, ◌-◌, Bool, true, false, cond, eqb, not, ◌||◌, List, [], ◌∷◌, ◌++◌, inl, inr, refl, sym, ap, ap₂, subst, ◌∙◌, arith, map, filter, take, length, get_or, append_assoc}
-use Rattle.std.specs.Prelude.{Option, Some, None, is_some}
+use Rattle.std.proofs.Common.{◌≡◌, ◌≤◌, ◌<◌, ℕ, zero, suc, false, cond, eqb, not, ◌||◌, List, [], ◌∷◌, ◌++◌, inl, inr, refl, sym, ap, ap₂, ◌∙◌, arith, map, length, get_or}
+use Rattle.std.specs.Prelude.{is_some}
 use Rattle.std.specs.FinMap.{get, insert, empty}
-use Rattle.std.specs.List.{list_any, zip}
-use Rattle.std.proofs.lemmas.Bool.{false≢true, or_parts, cases_lt}
-use Rattle.std.proofs.lemmas.List.{take-append-le, take_at, take_all, length_push, length-map}
-use Rattle.ann_types.specs.Lists.{Names, is_live, unmapped, mapped}
+use Rattle.std.specs.List.{zip}
+use Rattle.std.proofs.lemmas.Bool.{or_parts, cases_lt}
+use Rattle.std.proofs.lemmas.List.{take-append-le, take_at, length_push, length-map}
+use Rattle.ann_types.specs.Lists.{Names, is_live, unmapped}
 use Rattle.ann_types.specs.Order.{has}
 use Rattle.ann_types.proofs.Booleans.{eqb_sym}
 use Rattle.ann_segment.specs.Directory.{Item, item_of}

@@ -1,12 +1,12 @@
 -- What opening a segment by its number finds.
-use Rattle.std.specs.Prelude.{◌≡◌, ◌⊎◌, ◌<◌, ℕ, List, None, Some, All, Result, MatchResult}
+use Rattle.std.specs.Prelude.{◌≡◌, ◌⊎◌, ◌<◌, ℕ, List, None, Some, All}
 use Rattle.std.specs.FinMap.{get}
 use Rattle.ann_types.specs.Codes.{Book}
 use Rattle.ann_types.specs.Graph.{Graph}
 use Rattle.ann_types.specs.declared.params.Params.{Params}
 use Rattle.ann_vault.specs.Held.{Holding}
 use Rattle.ann_segment.specs.Segment.{SegmentView}
-use Rattle.ann_segment.specs.Opening.{IsFront, IsOpenedFrom, IsBadBlock}
+use Rattle.ann_segment.specs.Opening.{IsOpenedFrom, IsBadBlock}
 use Rattle.ann_segment.specs.Holds.{Holds, Fits}
 use Rattle.ann_segment.specs.Text.{segment_text}
 use Rattle.ann_base.specs.Faults.{IsFrontFault, AreBelow}

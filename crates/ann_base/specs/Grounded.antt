@@ -1,16 +1,16 @@
 -- What opening a base's segment finds.
-use Rattle.std.specs.Prelude.{◌≡◌, ◌≢◌, ◌⊎◌, ℕ, List, Option, Some, None, MatchOption, map}
+use Rattle.std.specs.Prelude.{◌≡◌, ◌≢◌, ℕ, List, MatchOption, map}
 use Rattle.ann_types.specs.Codes.{Book}
 use Rattle.ann_types.specs.Graph.{Graph, pids_of}
 use Rattle.ann_types.specs.Lists.{ListBase, IsBaseOf, names_of}
 use Rattle.ann_types.specs.declared.params.Params.{Params}
 use Rattle.ann_vault.specs.Held.{Holding}
 use Rattle.ann_segment.specs.Directory.{Item}
-use Rattle.ann_segment.specs.Holds.{Holds}
 use Rattle.ann_segment.specs.Segment.{SegmentView}
 use Rattle.ann_tags.specs.Tags.{map_of}
-use Rattle.ann_base.specs.Faults.{IsBaseFault, IsSoundBase, AreBelow}
-use Rattle.ann_base.specs.Front.{IsSealedAs, IsRightly, IsOpenedBelow}
+use Rattle.ann_base.specs.Faults.{IsBaseFault, IsSoundBase}
+use Rattle.ann_base.specs.Front.{IsSealedAs, IsOpenedBelow}
+use Rattle.ann_base.specs.Nodes.{graph_in, nodes_in}
 use Rattle.ann_base.specs.declared.base.Grounded.{Grounded}
 use Rattle.ann_base.specs.declared.refused.BaseRefused.{BaseRefused}
 use Rattle.ann_base.specs.declared.refused.BaseRefused.TheVariants.{BadSegment, Disk, Memory}
@@ -24,6 +24,8 @@ pub record IsSegmentOf {S : Type 0} (tells : Type 0) (bytes : S → List ℕ) (h
   pub named : number ≢ 0
   pub opened : IsOpenedBelow tells bytes held params number next segment
   pub pids : pids_of graph.points ≡ map (λ (x : Item). x.0) segment.items
+  -- told, it is the graph of the node blocks
+  pub nodes : tells → graph ≡ graph_in segment (nodes_in segment params (bytes segment.seal))
   -- no block of what is sealed is at fault
   pub sound : tells → IsSoundBase held params number next
   -- where the text of a graph is sealed, this is the graph

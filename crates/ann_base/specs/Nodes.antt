@@ -1,6 +1,6 @@
 -- The nodes of a segment's rows, and the graph that they are.
 use Rattle.std.specs.Prelude.{◌≡◌, ◌≤◌, ◌<◌, ◌+◌, ℕ, List, [], ◌∷◌, map, length, get_or}
-use Rattle.std.specs.List.{zip}
+use Rattle.std.specs.List.{range_with_len, zip}
 use Rattle.std.specs.Option.{option_map}
 use Rattle.ann_types.specs.Graph.{Point, Graph}
 use Rattle.ann_types.specs.Lists.{Names}
@@ -8,6 +8,7 @@ use Rattle.ann_types.specs.Rows.{AreNeighbours}
 use Rattle.ann_types.specs.declared.params.Params.{Params}
 use Rattle.ann_block.specs.Node.{NodeFields}
 use Rattle.ann_segment.specs.Directory.{Item, item_of}
+use Rattle.ann_segment.specs.Rows.{node_in}
 use Rattle.ann_segment.specs.Segment.{SegmentView}
 
 -- the Pid in a row
@@ -26,6 +27,10 @@ points_from segment row (node ∷ nodes) = point_in segment row node ∷ points_
 -- the graph of a node for each row
 abbrev pub graph_in : {S : Type 0} → SegmentView S → List NodeFields → Graph
 graph_in segment nodes = record { entry = option_map (pid_of segment) segment.entry; points = points_from segment 0 nodes }
+
+-- the nodes of all rows, by what is sealed
+abbrev pub nodes_in : {S : Type 0} → SegmentView S → Params → List ℕ → List NodeFields
+nodes_in segment params bytes = map (node_in segment bytes params.d) (range_with_len 0 (length segment.items))
 
 -- the tags of nodes
 abbrev pub tags_of : List NodeFields → List ℕ

@@ -7,7 +7,7 @@ use Rattle.ann_block.specs.Node.{NodeFields}
 use Rattle.ann_segment.specs.Segment.{SegmentView, node_block}
 use Rattle.ann_segment.specs.Rows.{node_in}
 use Rattle.ann_tags.specs.Tags.{Pids, map_of}
-use Rattle.ann_base.specs.Faults.{IsFormed, IsFirstBadNode, AreSoundRows}
+use Rattle.ann_base.specs.Faults.{IsFormed, IsFirstBadNode}
 use Rattle.ann_base.specs.Nodes.{AreNodes, named, tags_of}
 use Rattle.ann_base.specs.declared.refused.BaseRefused.{BaseRefused}
 use Rattle.ann_base.specs.declared.refused.BaseRefused.TheVariants.{BadSegment, Disk, Memory}

@@ -59,8 +59,8 @@ base_current index h segment n named below = record {
 
 -- ---- one more entry
 
-pub stays_current : {S : Type 0} (index : Index) (h : BasedList) (e : Entry) (segment : Option (SegmentView S)) → IsLegal index h → may_follow index.params h (fold_of index h) e ≡ true → is_end e ≡ false → IsCurrent index h segment → IsCurrent index (with_entry h e) segment
-stays_current index h e segment l m n w = record {
+pub stays : {S : Type 0} (index : Index) (h : BasedList) (e : Entry) (segment : Option (SegmentView S)) → is_end e ≡ false → IsCurrent index h segment → IsCurrent index (with_entry h e) segment
+stays index h e segment n w = record {
   named = named_same h (with_entry h e) segment (named_push h e ∙ named_stays (named_in h) e n) w.named;
   below = below_more (next_pid h) (next_pid (with_entry h e)) segment (next_more h e) w.below;
   older = λ b o. still b (opened_by index h (fold_of index h) e b n (sym (ap (λ (s : State). s.begun) (fold_push index h e)) ∙ o));
@@ -75,19 +75,25 @@ stays_current index h e segment l m n w = record {
         below_more (next_pid h) (next_pid (upto (with_entry h e) b.position)) segment
         (subst (λ n. next_pid h ≤ next_pid (upto (with_entry h e) n)) (sym at) (upto_here h e)) w.below
 
+pub stays_current : {S : Type 0} (index : Index) (h : BasedList) (e : Entry) (segment : Option (SegmentView S)) → IsLegal index h → may_follow index.params h (fold_of index h) e ≡ true → is_end e ≡ false → IsCurrent index h segment → IsCurrent index (with_entry h e) segment
+stays_current index h e segment l m n w = stays index h e segment n w
+
 -- ---- an End
 
 not_none : (segment : ℕ) (o : Option Begun) → names_segment segment o ≡ true → segment ≡ 0 → ⊥
 not_none segment None m none = false≢true m
 not_none segment (Some b) m none = let is = eqb-true segment (2 * b.position + 1) m in omega arith
 
-pub end_current : {S : Type 0} (index : Index) (h : BasedList) (by : ℕ) (segment : SegmentView S) → may_follow index.params h (fold_of index h) (End by segment.number) ≡ true → AreBelow (next_pid h) (Some segment) → IsCurrent index (with_entry h (End by segment.number)) (Some segment)
-end_current index h by segment m below =
+pub ends : {S : Type 0} (index : Index) (h : BasedList) (by : ℕ) (segment : SegmentView S) → (segment.number ≡ 0 → ⊥) → AreBelow (next_pid h) (Some segment) → IsCurrent index (with_entry h (End by segment.number)) (Some segment)
+ends index h by segment some below =
     let after : BasedList = with_entry h (End by segment.number) in
     let s : State = fold_of index h in
     let is : named_in after ≡ segment.number = named_push h (End by segment.number) in
     record {
-      named = (sym is, λ none. not_none segment.number s.begun m (sym is ∙ none));
+      named = (sym is, λ none. some (sym is ∙ none));
       below = below_more (next_pid h) (next_pid after) (Some segment) (next_more h (End by segment.number)) below;
       older = λ b o. absurd (none_some b (sym (end_closes s (merge_of index s s.begun) s.begun refl) ∙ ap (λ (t : State). t.begun) (sym (fold_push index h (End by segment.number))) ∙ o));
     }
+
+pub end_current : {S : Type 0} (index : Index) (h : BasedList) (by : ℕ) (segment : SegmentView S) → may_follow index.params h (fold_of index h) (End by segment.number) ≡ true → AreBelow (next_pid h) (Some segment) → IsCurrent index (with_entry h (End by segment.number)) (Some segment)
+end_current index h by segment m below = ends index h by segment (not_none segment.number (fold_of index h).begun m) below

@@ -2,7 +2,7 @@
 //! those which an open merge leaves behind.
 #![tactic(auto)]
 
-ghost use Rattle.std.specs.Prelude.{◌≡◌, ◌+◌, ◌*◌, ◌<◌, ℕ, true, false, Option, Some};
+ghost use Rattle.std.specs.Prelude.{◌≡◌, ◌+◌, ◌*◌, ◌<◌, ℕ, true, false, List, Option, Some};
 ghost use Rattle.std.specs.List.{list_any};
 ghost use Rattle.ann_types.specs.Index.{Index};
 ghost use Rattle.ann_types.specs.Lists.{BasedList, bare, next_pid, with_entry};
@@ -10,7 +10,7 @@ ghost use Rattle.ann_types.specs.Fold.{Begun, fold_of};
 ghost use Rattle.ann_types.specs.Legal.{IsLegal, may_follow};
 ghost use Rattle.ann_types.specs.declared.entry.Entry.{Entry};
 ghost use Rattle.ann_types.specs.declared.entry.Entry.TheVariants.{End};
-ghost use Rattle.ann_laws.specs.Replays.{is_end};
+ghost use Rattle.ann_laws.specs.Replays.{is_end, HasMerge, with_only};
 ghost use Rattle.ann_segment.specs.Segment.{SegmentView};
 ghost use Rattle.ann_named.specs.Named.{named_in, IsNamed, AreBelow, IsCurrent};
 
@@ -38,6 +38,15 @@ pub fn ending<S: Sealed>()
         → may_follow index.params h (fold_of index h) (End by segment.number) ≡ true
         → AreBelow (next_pid h) (Some segment)
         → IsCurrent index (with_entry h (End by segment.number)) (Some segment) }
+{}
+
+/// The segment of the last merge that has ended in a list is the current one, where its points are older than the Begin of
+/// that merge.
+pub fn merged<S: Sealed>()
+    ensures { (index : Index) (h : BasedList) (before inside behind : List Entry) (segment : SegmentView S)
+        → IsLegal index h → HasMerge h before inside segment.number behind
+        → AreBelow (next_pid (with_only h before)) (Some segment)
+        → IsCurrent index h (Some segment) }
 {}
 
 /// A segment's number is by the position of the Begin of its merge, so the one that a list names is below that of an open

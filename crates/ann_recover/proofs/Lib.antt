@@ -6,6 +6,7 @@ pub mod Tails
 pub mod Renewals
 pub mod Reviving
 pub mod Opening
+pub mod Leaving
 pub mod Ends
 pub mod Keeping
 pub mod Sounding

@@ -8,15 +8,17 @@ use Rattle.ann_types.specs.Lists.{BasedList}
 use Rattle.ann_types.specs.declared.entry.Entry.{Entry}
 use Rattle.ann_types.specs.declared.params.Params.{Params}
 use Rattle.ann_laws.specs.Replays.{StandsForList}
+use Rattle.ann_named.specs.Named.{IsCurrent}
 use Rattle.ann_pq.specs.Codebook.{CodebookView}
 use Rattle.ann_preamble.specs.declared.base.Base.{Base}
+use Rattle.ann_segment.specs.Segment.{SegmentView}
 use Rattle.ann_tags.specs.Tags.{map_of}
 use Rattle.ann_vault.specs.Held.{Holding}
 use Rattle.ann_view.specs.Holding.{HoldsGraph}
 use Rattle.ann_view.specs.Stands.{StandsFor, lti_of}
 use Rattle.ann_view.specs.View.{IndexView, index_of, whole}
 use Rattle.ann_reopen.specs.declared.judged.Merge.{Merge}
-use Rattle.ann_resume.specs.Resumed.{IsResumed, HoldsAtStart, position_of}
+use Rattle.ann_resume.specs.Resumed.{IsResumed, HoldsAtStart, position_of, segment_of}
 use Rattle.ann_state.specs.List.{list_on, IsListState}
 use Rattle.ann_state.specs.Merged.{IsMergeRefused}
 use Rattle.ann_state.specs.State.{index_with, IsLeftOf, IsResumable, IsState}
@@ -85,13 +87,17 @@ module _ {S : Type 0} (tells : Type 0) (bytes : S → List ℕ) (held : Holding)
   short room = (let all : position_of state.start + length state.entries.items ≡ base.position + length entries = st.long in omega (arith, all, room))
 
   pub loaded_is : (view : IndexView S) → IsResumed params book state.start view → StandsFor view r.left → ((HoldsAtStart bytes params book.book state.start r.left.base.graph) → HoldsGraph bytes view (lti_of view r.left)) → (loaded : Loaded S) → loaded.view ≡ view → loaded.tail.items ≡ state.entries.items → loaded.tags.pids ≡ state.tags.pids → loaded.begun ≡ state.begun → (same : loaded.merge ≡ list.judged.merge) → IsLoaded tells bytes held params book base entries loaded
-  loaded_is view on stands holds loaded at tail tags begun merge = record {
-    list = replayed_by loaded.merge merge;
-    tail_is = tail ∙ sym r.resumed.entries;
-    stands_for = subst (λ (v : IndexView S). StandsFor v r.left) (sym at) stands;
-    index = subst (λ (v : IndexView S). (v.params ≡ params) × (v.book ≡ book)) (sym at) (on.params, on.book);
-    open_now = ap (λ (v : IndexView S). v.closed) at ∙ on.open_now;
-    tags_are = tags ∙ st.tags ∙ ap map_of (sym r.stands.live);
-    begun_is = begun ∙ st.begun index refl ∙ ap (λ (s : Graphs). option_map (λ (b : Begun). b.position) s.begun) (sym r.stands.state);
-    holds = λ told kept. subst (λ (v : IndexView S). HoldsGraph bytes v (lti_of v r.left)) (sym at) (holds (r.holds told kept));
-  }
+  loaded_is view on stands holds loaded at tail tags begun merge =
+      let segment : segment_of state.start ≡ loaded.view.segment = sym (ap (λ (v : IndexView S). v.segment) at ∙ on.segment) in
+      record {
+        list = replayed_by loaded.merge merge;
+        tail_is = tail ∙ sym r.resumed.entries;
+        stands_for = subst (λ (v : IndexView S). StandsFor v r.left) (sym at) stands;
+        index = subst (λ (v : IndexView S). (v.params ≡ params) × (v.book ≡ book)) (sym at) (on.params, on.book);
+        open_now = ap (λ (v : IndexView S). v.closed) at ∙ on.open_now;
+        tags_are = tags ∙ st.tags ∙ ap map_of (sym r.stands.live);
+        begun_is = begun ∙ st.begun index refl ∙ ap (λ (s : Graphs). option_map (λ (b : Begun). b.position) s.begun) (sym r.stands.state);
+        holds = λ told kept. subst (λ (v : IndexView S). HoldsGraph bytes v (lti_of v r.left)) (sym at) (holds (r.holds told kept));
+        current = subst (λ (o : Option (SegmentView S)). IsCurrent index h o) segment r.current;
+        left_current = subst (λ (o : Option (SegmentView S)). IsCurrent index r.left o) segment r.left_current;
+      }

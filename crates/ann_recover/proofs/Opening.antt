@@ -20,7 +20,7 @@ use Rattle.ann_state.specs.State.{index_with}
 use Rattle.ann_recover.specs.Causes.{IsOfStore}
 use Rattle.ann_recover.specs.Fresh.{IsFresh, held_with}
 use Rattle.ann_recover.specs.Loaded.{IsLoaded, IsLoadRefused}
-use Rattle.ann_recover.specs.Recovered.{HaveStood, AreOfList, IsUnread, IsNotRecovered}
+use Rattle.ann_recover.specs.Recovered.{HaveStood, AreOfList}
 use Rattle.ann_recover.specs.Renewal.{renewal_of, IsAtRest, IsOldOrRenewed}
 use Rattle.ann_recover.specs.declared.load.Loaded.{Loaded}
 use Rattle.ann_recover.specs.declared.refused.RecoverWhy.{RecoverWhy}
@@ -35,6 +35,12 @@ loaded_of tells bytes held params params' book book' base base' entries entries'
     (subst (λ (x : CodebookView). IsLoaded tells bytes held params' x base entries loaded) k
     (subst (λ (x : Base). IsLoaded tells bytes held params' book' x entries loaded) b
     (subst (λ (x : List Entry). IsLoaded tells bytes held params' book' base' x loaded) e is)))
+
+pub refused_of : {S : Type 0} (tells : Type 0) (bytes : S → List ℕ) (held : Holding) (params params' : Params) (base base' : Base) (entries entries' : List Entry) (why : RecoverWhy) → params' ≡ params → base' ≡ base → entries' ≡ entries → IsLoadRefused tells bytes held params' base' entries' why → IsLoadRefused tells bytes held params base entries why
+refused_of tells bytes held params params' base base' entries entries' why p b e is =
+    subst (λ (x : Params). IsLoadRefused tells bytes held x base entries why) p
+    (subst (λ (x : Base). IsLoadRefused tells bytes held params' x entries why) b
+    (subst (λ (x : List Entry). IsLoadRefused tells bytes held params' base' x why) e is))
 
 module _ {F S : Type 0} (D : Ghosts F) (tells : Type 0) (bytes : S → List ℕ) (held : Holding) (log : LogView F) (entries : List Entry) (fresh : IsFresh D log entries) where
   pub same_held : D.tells → held_of log ≡ held_with log entries
@@ -83,16 +89,6 @@ module _ {F S : Type 0} (D : Ghosts F) (tells : Type 0) (bytes : S → List ℕ)
     stood = λ told.
         subst (λ (t : List Entry). StandsAt log.generation (held_with log t) (D.seen files.first) (D.seen files.second)) (sym (opened.entries told)) (opened.held told);
   }
-
-  unread : (why : RecoverWhy) → IsLoadRefused tells bytes held log.params log.base entries why → IsUnread D tells bytes held files why
-  unread why is = record { was = held_with log entries; generation = log.generation; stood = has_stood; refused = is }
-
-  pub not_recovered : (why : RecoverWhy) → IsLoadRefused tells bytes held log.params log.base entries why → IsNotRecovered D tells bytes held files why
-  not_recovered NoIndex is = absurd is
-  not_recovered (BadLog entry) is = inr (unread (BadLog entry) is)
-  not_recovered (BadSegment block) is = unread (BadSegment block) is
-  not_recovered Disk is = tt
-  not_recovered Memory is = tt
 
 -- a refusal of a device is none of the list
 pub store_refused : {S : Type 0} (tells : Type 0) (bytes : S → List ℕ) (held : Holding) (params : Params) (base : Base) (entries : List Entry) (why : RecoverWhy) → IsOfStore why → IsLoadRefused tells bytes held params base entries why

@@ -15,6 +15,7 @@ use Rattle.ann_log.specs.LogView.{LogView, files_of, held_of}
 use Rattle.ann_log.specs.Renewed.{HasRenewed}
 use Rattle.ann_log.specs.Text.{Held, StandsFor as Stands}
 use Rattle.ann_log.specs.Told.{MayLeave}
+use Rattle.ann_named.specs.Named.{IsCurrent}
 use Rattle.ann_pq.specs.Codebook.{CodebookView}
 use Rattle.ann_preamble.specs.declared.base.Base.{Base}
 use Rattle.ann_tags.specs.Tags.{map_of}
@@ -73,6 +74,7 @@ module _ {F S : Type 0} (D : Ghosts F) (tells : Type 0) (bytes : S → List ℕ)
     open_now = (open_now, is.open_now);
     legal = subst (λ (i : Index). IsLegal i whole) same_index is.list.legal;
     stands = stands_on loaded.view whole left stands is.stands_for;
+    current = subst (λ (i : Index). IsCurrent i whole loaded.view.segment) same_index is.current;
     tags_are = is.tags_are ∙ ap map_of is.list.stands.live;
     begun_is =
         is.begun_is
@@ -87,6 +89,7 @@ module _ {F S : Type 0} (D : Ghosts F) (tells : Type 0) (bytes : S → List ℕ)
     open_now = (open_now, is.open_now);
     legal = stands.legal;
     stands = is.stands_for;
+    current = subst (λ (i : Index). IsCurrent i left loaded.view.segment) same_index is.left_current;
     tags_are = is.tags_are;
     begun_is = is.begun_is ∙ ap (λ (i : Index). option_map (λ (b : Begun). b.position) (fold_of i left).begun) same_index;
   }

@@ -5,6 +5,7 @@ pub mod Loaded
 pub mod Renewal
 pub mod Settled
 pub mod Recovered
+pub mod NotRecovered
 pub mod Places
 pub mod Verified
 pub mod Inspected

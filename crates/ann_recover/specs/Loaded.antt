@@ -8,6 +8,7 @@ use Rattle.ann_types.specs.Lists.{BasedList, live_of}
 use Rattle.ann_types.specs.declared.entry.Entry.{Entry}
 use Rattle.ann_types.specs.declared.params.Params.{Params}
 use Rattle.ann_laws.specs.Replays.{StandsForList}
+use Rattle.ann_named.specs.Named.{IsCurrent}
 use Rattle.ann_pq.specs.Codebook.{CodebookView}
 use Rattle.ann_preamble.specs.declared.base.Base.{Base}
 use Rattle.ann_segment.specs.Segment.{SegmentView}
@@ -46,6 +47,9 @@ pub record IsLoaded {S : Type 0} (tells : Type 0) (bytes : S → List ℕ) (held
   pub begun_is : loaded.begun ≡ option_map (λ (b : Begun). b.position) (fold_of (index_with params book.book) list.left).begun
   -- where the vault holds what the list names, the view's segment holds its long-term graph
   pub holds : tells → AreKept held params book.book (list_on base list.graph entries) → HoldsGraph bytes loaded.view (lti_of loaded.view list.left)
+  -- and it is the current one of both lists
+  pub current : IsCurrent (index_with params book.book) (list_on base list.graph entries) loaded.view.segment
+  pub left_current : IsCurrent (index_with params book.book) list.left loaded.view.segment
 
 -- the first block at fault of the segment of the list's last merge
 pub record IsBadMerge {S : Type 0} (tells : Type 0) (bytes : S → List ℕ) (held : Holding) (params : Params) (base : Base) (entries : List Entry) (block : ℕ) : Type 0 where

@@ -1,4 +1,4 @@
--- What opening an index again gives, and why it is refused.
+-- What opening an index again gives, and what a crash leaves meanwhile.
 use Rattle.std.specs.Prelude.{◌≡◌, ◌⊎◌, ◌+◌, ℕ, false, List, length, Option, Some, None}
 use Rattle.std.specs.Option.{option_map}
 use Rattle.std.specs.FinMap.{retain_keys}
@@ -9,9 +9,10 @@ use Rattle.ann_disk.specs.declared.file.LogFile.{Ghosts}
 use Rattle.ann_log.specs.LogView.{LogView, files_of, held_of}
 use Rattle.ann_log.specs.Pairs.{ReadAsBefore}
 use Rattle.ann_log.specs.Renewed.{renewed}
-use Rattle.ann_log.specs.Text.{Held, IsNoIndex, StandsAt, StandsFor, bad_log, log_text}
+use Rattle.ann_log.specs.Text.{Held, StandsAt, StandsFor}
 use Rattle.ann_log.specs.Told.{MayLeave}
 use Rattle.ann_log.specs.declared.files.Files.{Files}
+use Rattle.ann_named.specs.Named.{IsCurrent}
 use Rattle.ann_preamble.specs.declared.base.Base.{Base}
 use Rattle.ann_tags.specs.Tags.{TagsView, map_of}
 use Rattle.ann_vault.specs.Held.{Holding}
@@ -22,10 +23,8 @@ use Rattle.ann_reopen.specs.declared.judged.Merge.{Merge}
 use Rattle.ann_resume.specs.Removed.{is_named}
 use Rattle.ann_state.specs.List.{base_on, list_on}
 use Rattle.ann_state.specs.State.{AreKept}
-use Rattle.ann_recover.specs.Loaded.{IsReplayed, IsLoadRefused}
+use Rattle.ann_recover.specs.Loaded.{IsReplayed}
 use Rattle.ann_recover.specs.Renewal.{renewal_of, number_of}
-use Rattle.ann_recover.specs.declared.refused.RecoverWhy.{RecoverWhy}
-use Rattle.ann_recover.specs.declared.refused.RecoverWhy.TheVariants.{NoIndex, BadLog, BadSegment, Disk, Memory}
 
 module _ {F : Type 0} (D : Ghosts F) where
   -- two files stood for this, at this generation
@@ -43,12 +42,13 @@ pub record IsListOf {F : Type 0} (D : Ghosts F) (log : LogView F) (h : BasedList
   pub count : log.count ≡ length h.entries
   pub entries : D.tells → log.list ≡ h.entries
 
--- a view is of this list of the log's index, and these are its live tags and its open Begin
+-- a view is of this list of the log's index and on its current segment, and these are its live tags and its open Begin
 pub record IsShown {F S : Type 0} (log : LogView F) (view : IndexView S) (tags : TagsView) (begun : Option ℕ) (h : BasedList) : Type 0 where
   pub index : (view.params ≡ log.params) × (view.book ≡ log.book)
   pub open_now : (log.is_closed ≡ false) × (view.closed ≡ false)
   pub legal : IsLegal (index_of view) h
   pub stands : IsViewOf view h
+  pub current : IsCurrent (index_of view) h view.segment
   pub tags_are : tags.pids ≡ map_of (live_of h)
   pub begun_is : begun ≡ option_map (λ (b : Begun). b.position) (fold_of (index_of view) h).begun
 
@@ -74,23 +74,6 @@ pub record IsRecovered {F S : Type 0} (D : Ghosts F) (tells : Type 0) (bytes : S
   pub generation : ℕ
   pub stood : HaveStood D files was generation
   pub revived : IsRevived D tells bytes held after was generation log view tags begun
-
--- the list for which the files stood is refused so
-pub record IsUnread {F S : Type 0} (D : Ghosts F) (tells : Type 0) (bytes : S → List ℕ) (held : Holding) (files : Files F) (why : RecoverWhy) : Type 0 where
-  pub was : Held
-  pub generation : ℕ
-  pub stood : HaveStood D files was generation
-  pub refused : IsLoadRefused tells bytes held was.params was.base was.entries why
-
--- An index isn't opened: by what the files say, or else by the list for which they stand; or for a fault or want of memory.
-abbrev pub IsNotRecovered : {F S : Type 0} → Ghosts F → Type 0 → (S → List ℕ) → Holding → Files F → RecoverWhy → Type 0
-IsNotRecovered D tells bytes held files NoIndex = D.tells → IsNoIndex (D.seen files.first) (D.seen files.second)
-IsNotRecovered D tells bytes held files (BadLog entry) =
-    (D.tells → log_text (D.seen files.first) (D.seen files.second) ≡ bad_log entry)
-    ⊎ IsUnread D tells bytes held files (BadLog entry)
-IsNotRecovered D tells bytes held files (BadSegment block) = IsUnread D tells bytes held files (BadSegment block)
-IsNotRecovered D tells bytes held files Disk = Unit {0}
-IsNotRecovered D tells bytes held files Memory = Unit {0}
 
 -- ---- crashes
 

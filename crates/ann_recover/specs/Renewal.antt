@@ -29,6 +29,11 @@ number_of (Some merge) = merge.segment
 abbrev pub IsNumbered : Option Merge → Type 0
 IsNumbered merge = MatchOption merge (Unit {0}) (λ m. (m.position < 2 ^ 63) × (m.segment ≡ 2 * m.position + 1))
 
+-- what a log holds then: its list with that base and this tail, or as it was
+abbrev pub renewed_on : Held → Option Base → List Entry → Held
+renewed_on held None tail = held
+renewed_on held (Some base) tail = renewed held base tail
+
 -- a log holds its list, and may be written anew with this base and tail
 pub record IsAtRest {F : Type 0} (D : Ghosts F) (log : LogView F) (merge : Option Merge) (tail : List Entry) : Type 0 where
   pub open_now : log.is_closed ≡ false

@@ -7,9 +7,9 @@ ghost use Rattle.ann_log.specs.Pairs.{EachPair, LeavePairs};
 ghost use Rattle.ann_log.specs.Told.{LeaveFiles};
 ghost use Rattle.ann_recover.specs.Causes.{IsCounted, IsOfStore};
 ghost use Rattle.ann_recover.specs.Fresh.{IsFresh, held_with};
-ghost use Rattle.ann_recover.specs.Loaded.{IsLoadRefused};
+ghost use Rattle.ann_recover.specs.NotRecovered.{IsNotRevived, IsNotRecovered};
 ghost use Rattle.ann_recover.specs.Places.{IsKeptList, StandKept, IsSoundPlace};
-ghost use Rattle.ann_recover.specs.Recovered.{IsRecovered, IsNotRecovered, IsRevived, AreOfList, AreLeft};
+ghost use Rattle.ann_recover.specs.Recovered.{IsRecovered, IsRevived, AreOfList, AreLeft};
 
 use crate::parts::Parts;
 use crate::refused::{RecoverRefused, RecoverWhy};
@@ -28,8 +28,9 @@ use std::alloc::Global;
 /// # Errors
 ///
 /// `NoIndex` and `BadLog` by what the files say; then `BadSegment` by the base's segment, `BadLog` by the first entry that isn't
-/// legal, and `BadSegment` by the segment of the last End. `Disk` where a call of the log, the vault or the first eye failed, or
-/// want of memory. All parts come back.
+/// legal, and `BadSegment` by the segment of the last End. The vault then holds what it held, and so do the files up to the last
+/// gate of the log. `Disk` where a call of the log, the vault or the first eye failed, or want of memory; the log may then be
+/// written anew, and after that segments that nobody names may be gone. All parts come back.
 pub fn recover<F: LogFile, V: Vault, E: Eye<Seal = V::Seal>>(
     alloc: Global,
     files: Files<F>,
@@ -41,7 +42,8 @@ pub fn recover<F: LogFile, V: Vault, E: Eye<Seal = V::Seal>>(
         IsRecovered F.LogFile V.Seal.tells V.Seal.bytes (V.held vault) (V.held parts.vault)
         files parts.log parts.view parts.tags parts.begun) }
     ensures refused { IfErr result (λ refused.
-        IsNotRecovered F.LogFile V.Seal.tells V.Seal.bytes (V.held vault) files refused.why) }
+        IsNotRecovered F.LogFile V.Seal.tells V.Seal.bytes (V.held vault) (V.held refused.vault)
+        files refused.files refused.why) }
     // A crash at any moment leaves files that read as before, or that are of the list for which they stood.
     ensures during { MatchResult result
         (λ parts. LeaveFiles F.LogFile files (files_of parts.log)
@@ -97,7 +99,8 @@ fn open_list<F: LogFile, V: Vault, E: Eye<Seal = V::Seal>>(
         IsRevived F.LogFile V.Seal.tells V.Seal.bytes (V.held vault) (V.held parts.vault)
         (held_with log entries) log.generation parts.log parts.view parts.tags parts.begun) }
     ensures refused { IfErr result (λ refused.
-        IsLoadRefused V.Seal.tells V.Seal.bytes (V.held vault) log.params log.base entries refused.why) }
+        IsNotRevived F.LogFile V.Seal.tells V.Seal.bytes (V.held vault) (V.held refused.vault)
+        log entries refused.files refused.why) }
     ensures during { MatchResult result
         (λ parts. LeaveFiles F.LogFile (files_of log) (files_of parts.log)
         (AreOfList V.Seal.tells V.Seal.bytes (V.held vault) (held_with log entries) log.generation))

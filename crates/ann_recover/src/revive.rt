@@ -5,7 +5,7 @@ ghost use Rattle.ann_log.specs.Pairs.{EachPair};
 ghost use Rattle.ann_log.specs.Told.{LeaveFiles};
 ghost use Rattle.ann_recover.specs.Causes.{AreCounted, faults_of};
 ghost use Rattle.ann_recover.specs.Fresh.{IsFresh, held_with};
-ghost use Rattle.ann_recover.specs.Loaded.{IsLoadRefused};
+ghost use Rattle.ann_recover.specs.NotRecovered.{IsNotRevived};
 ghost use Rattle.ann_recover.specs.Places.{IsKeptList, StandKept};
 ghost use Rattle.ann_recover.specs.Recovered.{IsRevived, AreOfList};
 
@@ -43,8 +43,8 @@ pub(crate) fn revive<F: LogFile, V: Vault, E: Eye<Seal = V::Seal>>(
     ensures revived { IfOk result (λ shown.
         IsRevived F.LogFile V.Seal.tells V.Seal.bytes (V.held vault.old) (V.held vault.new)
         (held_with log.old entries) log.old.generation log.new shown.view shown.tags shown.begun) }
-    ensures refused { IfErr result (IsLoadRefused V.Seal.tells V.Seal.bytes (V.held vault.old)
-        log.old.params log.old.base entries) }
+    ensures refused { IfErr result (IsNotRevived F.LogFile V.Seal.tells V.Seal.bytes
+        (V.held vault.old) (V.held vault.new) log.old entries (files_of log.new)) }
     ensures during { LeaveFiles F.LogFile (files_of log.old) (files_of log.new)
         (AreOfList V.Seal.tells V.Seal.bytes (V.held vault.old)
         (held_with log.old entries) log.old.generation) }

@@ -1,7 +1,7 @@
 -- Lists without an End.
-use Rattle.std.proofs.Common.{◌≡◌, ◌∙◌, Bool, true, false, not, ◌&&◌, ◌||◌, List, [], ◌∷◌, ◌++◌, refl, sym}
+use Rattle.std.proofs.Common.{◌≡◌, ◌∙◌, Bool, true, false, not, ◌||◌, List, [], ◌∷◌, ◌++◌, refl, sym, ap₂}
 use Rattle.std.specs.List.{list_all, list_any}
-use Rattle.std.proofs.lemmas.Bool.{false≢true, and_parts}
+use Rattle.std.proofs.lemmas.Bool.{false≢true, and_parts, not-true}
 use Rattle.std.proofs.lemmas.List.Folds.{list_all-append}
 use Rattle.ann_types.specs.declared.entry.Entry.{Entry}
 use Rattle.ann_types.specs.declared.entry.Entry.TheVariants.{Insert, Delete, Begin, End, Replace}
@@ -37,3 +37,10 @@ pub left_ends : (inside behind : List Entry) → list_all (λ e. not (is_mark e)
 left_ends inside behind inner last =
     list_all-append (λ x. not (is_end x)) inside behind
     ∙ and_both (list_all (λ x. not (is_end x)) inside) (list_all (λ x. not (is_end x)) behind) (no_marks inside inner) last
+
+-- and back
+pub no_ends : (es : List Entry) → list_all (λ e. not (is_end e)) es ≡ true → list_any is_end es ≡ false
+no_ends [] n = refl
+no_ends (e ∷ es) n =
+    let both = and_parts (not (is_end e)) (list_all (λ x. not (is_end x)) es) n in
+    ap₂ ◌||◌ (not-true (is_end e) both.0) (no_ends es both.1)

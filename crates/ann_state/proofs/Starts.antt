@@ -1,17 +1,19 @@
 -- The base of a view: that of a log, where no merge has ended.
 use Rattle.std.proofs.Common.{◌≡◌, ℕ, Bool, true, false, ◌&&◌, ◌||◌, ◌+◌, ◌/◌, ◌%◌, ◌==◌, nat_lt, eqb-true, List, refl, sym, arith}
 use Rattle.std.specs.Prelude.{Option, Some, None}
-use Rattle.std.proofs.lemmas.Bool.{false≢true, and_parts}
+use Rattle.std.proofs.lemmas.Bool.{and_parts}
 use Rattle.ann_types.specs.Codes.{Book}
 use Rattle.ann_types.specs.Graph.{Graph}
+use Rattle.ann_types.specs.Lists.{bare}
 use Rattle.ann_types.specs.declared.entry.Entry.{Entry}
 use Rattle.ann_types.specs.declared.params.Params.{Params}
 use Rattle.ann_preamble.specs.Base.{is_base, is_empty, is_merged}
 use Rattle.ann_preamble.specs.declared.base.Base.{Base}
 use Rattle.ann_vault.specs.Held.{Holding}
 use Rattle.ann_segment.specs.Segment.{SegmentView}
-use Rattle.ann_resume.specs.Resumed.{CanStart, HoldsAtStart, position_of, next_of}
-use Rattle.ann_state.specs.List.{list_on, IsGround}
+use Rattle.ann_named.specs.Named.{IsNamed, AreBelow}
+use Rattle.ann_resume.specs.Resumed.{CanStart, HoldsAtStart, position_of, next_of, segment_of}
+use Rattle.ann_state.specs.List.{base_on, list_on, IsGround}
 use Rattle.ann_state.specs.Start.{start_at}
 use Rattle.ann_state.specs.State.{AreKept}
 
@@ -45,7 +47,20 @@ module _ {S : Type 0} (tells : Type 0) (bytes : S → List ℕ) (held : Holding)
   starts_next None g = sym (no_numbers base valid g.sealed).1
   starts_next (Some segment) g = refl
 
+pub start_segment : {S : Type 0} (at next : ℕ) (segment : Option (SegmentView S)) → segment_of (start_at at next segment) ≡ segment
+start_segment at next None = refl
+start_segment at next (Some segment) = refl
+
 module _ {S : Type 0} (tells : Type 0) (bytes : S → List ℕ) (held : Holding) (params : Params) (base : Base) (graph : Graph) where
+  -- the base names its segment, whose Pids are below its next one
+  pub start_named : (segment : Option (SegmentView S)) → IsGround tells bytes held params base graph segment → IsNamed (bare (base_on base graph)) segment
+  start_named None g = g.sealed
+  start_named (Some segment) g = (g.sealed.opened.found.number, g.sealed.named)
+
+  pub start_below : (segment : Option (SegmentView S)) → IsGround tells bytes held params base graph segment → AreBelow base.next segment
+  start_below None g = tt
+  start_below (Some segment) g = g.sealed.opened.below
+
   pub can_start : (segment : Option (SegmentView S)) → IsGround tells bytes held params base graph segment → CanStart params (start_at base.position base.next segment)
   can_start None g = tt
   can_start (Some segment) g = record { code_bytes = g.sealed.opened.found.code_bytes; below = g.sealed.opened.below }

@@ -1,16 +1,19 @@
 -- What an index is resumed from stands for the list of the log.
-use Rattle.std.proofs.Common.{◌≡◌, ◌∙◌, ℕ, ◌+◌, ◌*◌, true, false, List, [], ◌∷◌, ◌++◌, length, length-append, refl, sym, ap, subst, arith}
-use Rattle.std.specs.Prelude.{Option, Some, None, MatchOption, not}
-use Rattle.std.specs.List.{list_all, list_any}
+use Rattle.std.proofs.Common.{◌≡◌, ◌∙◌, ℕ, ◌+◌, true, false, List, [], ◌∷◌, ◌++◌, length, length-append, refl, sym, ap, subst, arith}
+use Rattle.std.specs.Prelude.{Option, Some, None, MatchOption}
+use Rattle.std.specs.List.{list_any}
 use Rattle.ann_types.specs.Codes.{Book}
 use Rattle.ann_types.specs.Index.{Index}
 use Rattle.ann_types.specs.Legal.{IsLegal}
-use Rattle.ann_types.specs.Lists.{BasedList, names_of, length_of}
+use Rattle.ann_types.specs.Lists.{BasedList, names_of}
 use Rattle.ann_types.specs.declared.entry.Entry.{Entry}
 use Rattle.ann_types.specs.declared.entry.Entry.TheVariants.{Begin, End}
 use Rattle.ann_types.specs.declared.params.Params.{Params}
-use Rattle.ann_laws.specs.Replays.{is_end, LastMerge, StandsForList}
+use Rattle.ann_laws.specs.Replays.{is_end, HasMerge, LastMerge, StandsForList}
 use Rattle.ann_laws.proofs.Replayed.{replay_law, merge_number}
+use Rattle.ann_named.specs.Named.{AreBelow, IsCurrent}
+use Rattle.ann_named.proofs.Current.{base_current}
+use Rattle.ann_named.proofs.LastEnd.{merged_current}
 use Rattle.ann_pq.specs.Codebook.{CodebookView}
 use Rattle.ann_preamble.specs.Base.{is_base}
 use Rattle.ann_preamble.specs.declared.base.Base.{Base}
@@ -19,18 +22,18 @@ use Rattle.ann_segment.specs.Segment.{SegmentView}
 use Rattle.ann_reopen.specs.Judged.{IsJudged, IsLastMerge}
 use Rattle.ann_reopen.specs.declared.judged.Merge.{Merge}
 use Rattle.ann_resume.specs.Cut.{on_merge, StandsIn, IsTailOf}
-use Rattle.ann_resume.specs.Resumed.{IsResumedBy, CanStart, HoldsAtStart, position_of, next_of}
+use Rattle.ann_resume.specs.Resumed.{IsResumedBy, CanStart, HoldsAtStart, position_of, next_of, segment_of}
 use Rattle.ann_resume.specs.declared.view.Start.{Start}
 use Rattle.ann_resume.proofs.Cutting.{length-gone_from}
 use Rattle.ann_base.specs.Front.{IsOpenedBelow}
 use Rattle.ann_state.specs.List.{list_on, IsListState}
 use Rattle.ann_state.specs.Merged.{IsMerged}
 use Rattle.ann_state.specs.Start.{start_at, IsOnBase, IsOnMerge}
-use Rattle.ann_state.specs.State.{index_with, AreKept, IsResumable, IsState}
+use Rattle.ann_state.specs.State.{index_with, IsState}
 use Rattle.ann_state.specs.declared.list.ListState.{ListState}
 use Rattle.ann_state.specs.declared.state.State.{State}
-use Rattle.ann_state.proofs.Marks.{none_ends, left_ends}
-use Rattle.ann_state.proofs.Starts.{starts_at, starts_next, can_start, start_holds}
+use Rattle.ann_state.proofs.Marks.{none_ends, no_ends, left_ends}
+use Rattle.ann_state.proofs.Starts.{starts_at, starts_next, start_segment, start_named, start_below, can_start, start_holds}
 
 -- each legal list stands for itself
 same_list : (index : Index) (h : BasedList) → IsLegal index h → StandsForList index h h
@@ -62,6 +65,14 @@ module _ {S : Type 0} (tells : Type 0) (bytes : S → List ℕ) (held : Holding)
       deletes = on.gone ∙ (judged_by book.book).gone;
     }
 
+    base_is_current : (book : Book) → IsCurrent (index_with params book) whole (segment_of state.start)
+    base_is_current book =
+        subst (λ (o : Option (SegmentView S)). IsCurrent (index_with params book) whole o)
+        (sym (ap segment_of on.start ∙ start_segment base.position base.next list.segment))
+        (base_current (index_with params book) whole list.segment none_end
+        (start_named tells bytes held params base is.graph list.segment is.ground)
+        (start_below tells bytes held params base is.graph list.segment is.ground))
+
     pub base_state : IsState tells bytes held params whole None state
     base_state = record {
       can_start = subst (CanStart params) (sym on.start) (can_start tells bytes held params base is.graph list.segment is.ground);
@@ -76,6 +87,8 @@ module _ {S : Type 0} (tells : Type 0) (bytes : S → List ℕ) (held : Holding)
         holds = λ told kept.
             subst (λ (o : Option (Start S)). HoldsAtStart bytes params book.book o is.graph) (sym on.start)
             (start_holds tells bytes held params base is.graph list.segment is.ground entries book.book told kept);
+        current = base_is_current book.book;
+        left_current = base_is_current book.book;
       };
     }
 
@@ -124,6 +137,31 @@ module _ {S : Type 0} (tells : Type 0) (bytes : S → List ℕ) (held : Holding)
       deletes = (tail_by book.book).gone refl (judged_by book.book).legal refl (judged_by book.book).gone;
     }
 
+    started : segment_of state.start ≡ Some segment
+    started = ap segment_of on.start
+
+    merge_some : (book : Book) → merge.segment ≡ 0 → ⊥
+    merge_some book none =
+        let last = last_by book in
+        let number = merge_number (index_with params book) whole last.before last.inside merge.segment last.behind (judged_by book).legal last.merge in
+        omega (arith, number, none)
+
+    whole_current : (book : Book) → IsCurrent (index_with params book) whole (segment_of state.start)
+    whole_current book =
+        let last = last_by book in
+        subst (λ (o : Option (SegmentView S)). IsCurrent (index_with params book) whole o) (sym started)
+        (merged_current (index_with params book) whole last.before last.inside last.behind segment (judged_by book).legal
+        (subst (λ (n : ℕ). HasMerge whole last.before last.inside n last.behind) (sym opened.found.number) last.merge)
+        (subst (λ (n : ℕ). AreBelow n (Some segment)) last.next opened.below))
+
+    left_is_current : (book : Book) → IsCurrent (index_with params book) (left_by book) (segment_of state.start)
+    left_is_current book =
+        let last = last_by book in
+        subst (λ (o : Option (SegmentView S)). IsCurrent (index_with params book) (left_by book) o) (sym started)
+        (base_current (index_with params book) (left_by book) (Some segment) (no_ends (left_by book).entries (left_ends last.inside last.behind last.merge.inner last.merge.last))
+        (opened.found.number, merge_some book)
+        (subst (λ (n : ℕ). AreBelow n (Some segment)) last.next opened.below))
+
     pub merge_state : IsState tells bytes held params whole (Some merge) state
     merge_state = record {
       can_start = subst (CanStart params) (sym on.start) (let can : CanStart params (start_at (merge.position + 2) merge.next (Some segment)) = record { code_bytes = opened.found.code_bytes; below = opened.below } in can);
@@ -139,6 +177,8 @@ module _ {S : Type 0} (tells : Type 0) (bytes : S → List ℕ) (held : Holding)
         holds = λ told kept.
             subst (λ (o : Option (Start S)). HoldsAtStart bytes params book.book o (left_by book.book).base.graph) (sym on.start)
             (opened.found.graph told book.book (left_by book.book).base.graph (kept.merged (last_merge book.book)));
+        current = whole_current book.book;
+        left_current = left_is_current book.book;
       };
     }
 

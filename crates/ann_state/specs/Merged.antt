@@ -1,5 +1,5 @@
 -- What opening the segment of a list's last merge finds.
-use Rattle.std.specs.Prelude.{◌≡◌, ℕ, List, Option, Some, None}
+use Rattle.std.specs.Prelude.{ℕ, List, Option, Some, None}
 use Rattle.ann_types.specs.declared.params.Params.{Params}
 use Rattle.ann_vault.specs.Held.{Holding}
 use Rattle.ann_segment.specs.Segment.{SegmentView}

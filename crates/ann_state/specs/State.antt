@@ -8,13 +8,14 @@ use Rattle.ann_types.specs.Index.{Index}
 use Rattle.ann_types.specs.Lists.{BasedList, length_of, live_of}
 use Rattle.ann_types.specs.declared.params.Params.{Params}
 use Rattle.ann_laws.specs.Replays.{is_end, LastMerge, StandsForList}
+use Rattle.ann_named.specs.Named.{IsCurrent}
 use Rattle.ann_pq.specs.Codebook.{CodebookView}
 use Rattle.ann_tags.specs.Tags.{map_of}
 use Rattle.ann_vault.specs.Held.{Holding}
 use Rattle.ann_reopen.specs.Judged.{IsLastMerge}
 use Rattle.ann_reopen.specs.declared.judged.Merge.{Merge}
 use Rattle.ann_resume.specs.Cut.{on_merge}
-use Rattle.ann_resume.specs.Resumed.{CanStart, IsResumedBy, HoldsAtStart, position_of}
+use Rattle.ann_resume.specs.Resumed.{CanStart, IsResumedBy, HoldsAtStart, position_of, segment_of}
 use Rattle.ann_base.specs.Front.{IsSealedAs}
 use Rattle.ann_state.specs.declared.state.State.{State}
 
@@ -39,6 +40,9 @@ pub record IsResumable {S : Type 0} (tells : Type 0) (bytes : S → List ℕ) (h
   pub resumed : IsResumedBy params book state.start state.entries.items state.gone.items left
   -- its segment holds the graph of that list's base, where the vault holds what the list names
   pub holds : tells → AreKept held params book.book h → HoldsAtStart bytes params book.book state.start left.base.graph
+  -- and it is the current one of both lists
+  pub current : IsCurrent (index_with params book.book) h (segment_of state.start)
+  pub left_current : IsCurrent (index_with params book.book) left (segment_of state.start)
 
 -- a state is that of a list of an index with these parameters, whose last merge this is
 pub record IsState {S : Type 0} (tells : Type 0) (bytes : S → List ℕ) (held : Holding) (params : Params) (h : BasedList) (merge : Option Merge) (state : State S) : Type 0 where

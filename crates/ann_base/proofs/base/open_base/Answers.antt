@@ -1,4 +1,4 @@
-use Rattle.std.proofs.Common.{refl, sym, ap, subst, ◌∙◌}
+use Rattle.std.proofs.Common.{refl, ap}
 use Rattle.ann_tags.specs.Tags.{TagsView}
 use Rattle.ann_base.specs.Grounded.{IsBaseRefused}
 use Rattle.ann_base.proofs.Based.{no_base, front_refused, nodes_refused, base_of_segment}

@@ -1,10 +1,10 @@
-use Rattle.std.proofs.Common.{◌≡◌, ℕ, List, sym, ap, subst, ◌∙◌, arith, length}
+use Rattle.std.proofs.Common.{◌≡◌, sym, ap, subst, ◌∙◌, arith, length}
 use Rattle.std.proofs.lemmas.List.{length-map}
 use Rattle.ann_block.specs.Node.{NodeFields}
 use Rattle.ann_mdelete.specs.Loaded.{piece_rows}
-use Rattle.ann_tags.specs.Tags.{Pids, TagsView}
+use Rattle.ann_tags.specs.Tags.{TagsView}
 use Rattle.ann_base.specs.Nodes.{tags_of}
-use Rattle.ann_base.specs.Tagged.{HasTags, HasNodes, HasMore, IsAddRefused, IsLoadRefused}
+use Rattle.ann_base.specs.Tagged.{HasTags, IsAddRefused, IsLoadRefused}
 use Rattle.ann_base.specs.declared.refused.BaseRefused.{BaseRefused}
 use Rattle.ann_base.specs.declared.refused.BaseRefused.TheVariants.{BadSegment, Disk, Memory}
 use Rattle.ann_base.proofs.Based.{piece_long, load_refused}

@@ -1,10 +1,9 @@
-use Rattle.std.proofs.Common.{◌≡◌, ◌+◌, ◌++◌, ℕ, List, ◌∷◌, [], true, false, sym, ap, ap₂, subst, ◌∙◌, arith, take, length, get_or}
+use Rattle.std.proofs.Common.{◌≡◌, ◌+◌, ◌++◌, ℕ, List, ◌∷◌, [], false, sym, ap, ap₂, subst, ◌∙◌, arith, take, length, get_or}
 use Rattle.std.specs.Prelude.{is_some}
 use Rattle.std.specs.FinMap.{get, insert}
 use Rattle.std.proofs.lemmas.List.{take_more, append_assoc, length-append, length-take-le}
 use Rattle.ann_types.specs.Order.{has}
 use Rattle.ann_segment.specs.Segment.{node_block}
-use Rattle.ann_tags.specs.Tags.{Pids}
 use Rattle.ann_base.specs.Nodes.{pid_of}
 use Rattle.ann_base.specs.Tagged.{HasTags}
 use Rattle.ann_base.proofs.Tagging.{found_is, tag_more}

@@ -1,4 +1,4 @@
-use Rattle.std.proofs.Common.{◌≡◌, ◌*◌, ◌++◌, ℕ, min, ap, ◌∙◌, arith, refl, length, length-append}
+use Rattle.std.proofs.Common.{◌≡◌, ◌*◌, ◌++◌, ap, ◌∙◌, arith, refl, length, length-append}
 use Rattle.ann_tags.specs.Tags.{TagsView}
 use Rattle.ann_base.proofs.Based.{no_nodes}
 use Rattle.ann_base.proofs.tags.load_tags.Goals as goal

@@ -2,7 +2,8 @@ use Rattle.ann_log.proofs.Results.{if_ok, if_err}
 use Rattle.ann_log.specs.LogView.{files_of}
 use Rattle.ann_recover.specs.Fresh.{held_with}
 use Rattle.ann_recover.proofs.NeverBad.{never_load}
-use Rattle.ann_recover.proofs.Opening.{has_stood, not_recovered}
+use Rattle.ann_recover.proofs.Leaving.{not_recovered, not_opened}
+use Rattle.ann_recover.proofs.Opening.{has_stood}
 use Rattle.ann_recover.proofs.Placing.{counted_from, read_during, left_during, place_of, place_with, kept_read, index_read, kept_during, refused_kept}
 use Rattle.ann_recover.proofs.Results.{both}
 use Rattle.ann_recover.proofs.recovering.recover.Goals as goal
@@ -20,7 +21,7 @@ returns-in-Ok-clause-recovered g c =
 
 pub returns-in-Ok-clause-refused : goal.returns-in-Ok-clause-refused
 returns-in-Ok-clause-refused g c =
-    if_err c.open_list.result _ _ (λ refused w. not_recovered g.F.LogFile g.V.Seal.Sealed.tells g.V.Seal.Sealed.bytes (g.V.Vault.held c.args.vault) c.args.files c.in-Ok.log c.in-Ok.entries c.in-Ok.ensures.opened refused.why w) c.open_list.ensures.refused
+    if_err c.open_list.result _ _ (λ refused w. not_recovered g.F.LogFile g.met.F.LogFile.reads_an_image g.V.Seal.Sealed.tells g.V.Seal.Sealed.bytes (g.V.Vault.held c.args.vault) c.args.files c.in-Ok.log c.in-Ok.entries c.in-Ok.ensures.opened (g.V.Vault.held refused.vault) refused.files refused.why w) c.open_list.ensures.refused
 
 pub returns-in-Ok-clause-during : goal.returns-in-Ok-clause-during
 returns-in-Ok-clause-during g c =
@@ -57,8 +58,12 @@ returns-in-Ok-clause-never_bad g c told seals params book sound =
     let stood = has_stood g.F.LogFile g.V.Seal.Sealed.tells g.V.Seal.Sealed.bytes (g.V.Vault.held c.args.vault) c.args.files c.in-Ok.log c.in-Ok.entries c.in-Ok.ensures.opened in
     if_err c.open_list.result _ _
     (λ refused w. never_load g.V.Seal.Sealed.tells g.V.Seal.Sealed.bytes (g.V.Vault.held c.args.vault) (held_with c.in-Ok.log c.in-Ok.entries) seals
-    (kept_read g.F.LogFile g.V.Seal.Sealed.tells g.V.Seal.Sealed.bytes (g.V.Vault.held c.args.vault) c.args.files params book told sound (held_with c.in-Ok.log c.in-Ok.entries) c.in-Ok.log.generation stood) refused.why w)
+    (kept_read g.F.LogFile g.V.Seal.Sealed.tells g.V.Seal.Sealed.bytes (g.V.Vault.held c.args.vault) c.args.files params book told sound (held_with c.in-Ok.log c.in-Ok.entries) c.in-Ok.log.generation stood) refused.why w.why)
     c.open_list.ensures.refused
+
+pub returns-in-Err-clause-refused : goal.returns-in-Err-clause-refused
+returns-in-Err-clause-refused g c =
+    not_opened g.F.LogFile g.V.Seal.Sealed.tells g.V.Seal.Sealed.bytes (g.V.Vault.held c.args.vault) c.args.files c.in-Err.refused.files c.in-Err.refused.why _ c.from.ensures c.in-Err.ensures.refused
 
 pub returns-in-Err-clause-during : goal.returns-in-Err-clause-during
 returns-in-Err-clause-during g c = read_during g.F.LogFile g.V.Seal.Sealed.tells g.V.Seal.Sealed.bytes (g.V.Vault.held c.args.vault) c.args.files c.in-Err.refused.files c.in-Err.ensures.refused.during

@@ -1,4 +1,4 @@
-use Rattle.std.proofs.Common.{arith, ◌+◌, ◌<◌}
+use Rattle.std.proofs.Common.{arith}
 use Rattle.ann_state.proofs.States.{on_base_is, on_merge_is, stands_in, gone_many}
 use Rattle.ann_state.proofs.state.state_of.Goals as goal
 
