@@ -1,6 +1,6 @@
 -- What the phases make of a merge's parts is a plan for the merge.
-use Rattle.std.proofs.Common.{◌≡◌, ℕ, ◌<◌, ◌^◌, List, [], ◌++◌, refl, sym, ap, ap₂, subst, ◌∙◌, not, map, length}
-use Rattle.std.specs.Prelude.{All, Option, None, Some, MatchOption, Result, Ok, Err, IfOk}
+use Rattle.std.proofs.Common.{◌≡◌, ℕ, ◌<◌, ◌^◌, List, [], ◌++◌, sym, ap, ap₂, subst, ◌∙◌, not, map, length}
+use Rattle.std.specs.Prelude.{All, Option, None, Some, MatchOption, Result, IfOk}
 use Rattle.std.specs.List.Sorted.{IsStrictlyIncreasing}
 use Rattle.std.proofs.lemmas.List.{map-append}
 use Rattle.std.proofs.lemmas.Result.{IfOk-weaker}

@@ -129,11 +129,25 @@ impl<V: Vault, E: Eye<Seal = V::Seal>> Job<V, E> {
         mem::replace(&mut self.faulted, false)
     }
 
+    /// The merged segment, shared; none exactly where the job isn't done. The only error is want of memory.
+    pub fn merged(&self) -> Result<Option<Arc<Segment<V::Seal>>>, AllocError>
+        ensures segment { IfOk result (λ segment. option_map arc_value segment ≡ self.now.segment) }
+        // What is true of a done job's segment, as `into_parts` tells it.
+        ensures done { MatchOption self.now.segment (Unit {0})
+            (IsDone V.Seal.tells V.Seal.bytes self.now.order (V.held self.now.vault)) }
+    {
+        match &self.segment {
+            Some(segment) => Ok(Some(segment.clone()?)),
+            None => Ok(None),
+        }
+    }
+
     /// The parts of the job. A done job's segment has the job's number and the Pids of the old segment and of the frozen
     /// graphs without the deleted ones.
     pub fn into_parts(self) -> JobParts<V, E>
         ensures vault { result.vault ≡ self.vault }
         ensures eyes { result.eyes.items ≡ self.eyes }
+        ensures old { option_map arc_value result.old ≡ self.order.old }
         ensures segment { option_map arc_value result.segment ≡ self.segment }
         // Where the seals tell, its bytes are the text of the merged graph, and the vault holds them.
         ensures done { MatchOption self.segment (Unit {0})
@@ -142,6 +156,7 @@ impl<V: Vault, E: Eye<Seal = V::Seal>> Job<V, E> {
         JobParts {
             vault: self.vault,
             eyes: self.eyes,
+            old: self.taken.into_old(),
             segment: self.segment,
         }
     }
