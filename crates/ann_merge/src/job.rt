@@ -134,6 +134,7 @@ impl<V: Vault, E: Eye<Seal = V::Seal>> Job<V, E> {
     pub fn into_parts(self) -> JobParts<V, E>
         ensures vault { result.vault ≡ self.vault }
         ensures eyes { result.eyes.items ≡ self.eyes }
+        ensures old { option_map arc_value result.old ≡ self.order.old }
         ensures segment { option_map arc_value result.segment ≡ self.segment }
         // Where the seals tell, its bytes are the text of the merged graph, and the vault holds them.
         ensures done { MatchOption self.segment (Unit {0})
@@ -142,6 +143,7 @@ impl<V: Vault, E: Eye<Seal = V::Seal>> Job<V, E> {
         JobParts {
             vault: self.vault,
             eyes: self.eyes,
+            old: self.taken.into_old(),
             segment: self.segment,
         }
     }

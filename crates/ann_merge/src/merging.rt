@@ -1,6 +1,8 @@
 // One attempt at a merge, from the new points to the sealed segment.
 ghost use Rattle.std.specs.Prelude.{◌≡◌, ◌≤◌, ◌<◌, length, IfOk, IfErr, MatchResult};
+ghost use Rattle.std.specs.Arc.{arc_value};
 ghost use Rattle.std.specs.FinMap.{get};
+ghost use Rattle.std.specs.Option.{option_map};
 ghost use Rattle.ann_types.specs.Index.{IsBookOf};
 ghost use Rattle.ann_mpatch.specs.Source.{source_of};
 ghost use Rattle.ann_mcause.specs.Eyes.{AreCause, HaveGone};
@@ -56,6 +58,13 @@ impl<S: Sealed> Taken<S> {
         ensures { IsBookOf self.now.params self.now.book.book }
     {
         self.book.known();
+    }
+
+    /// The old segment, if there is one.
+    pub(crate) fn into_old(self) -> Option<Arc<Segment<S>>>
+        ensures { option_map arc_value result ≡ self.old }
+    {
+        self.old
     }
 }
 
