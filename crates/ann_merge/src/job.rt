@@ -142,9 +142,10 @@ impl<V: Vault, E: Eye<Seal = V::Seal>> Job<V, E> {
         }
     }
 
-    /// The parts of the job. A done job's segment has the job's number and the Pids of the old segment and of the frozen
-    /// graphs without the deleted ones.
+    /// The parts of the job, which has an eye at least. A done job's segment has the job's number and the Pids of the old
+    /// segment and of the frozen graphs without the deleted ones.
     pub fn into_parts(self) -> JobParts<V, E>
+        ensures some { 0 < length self.eyes }
         ensures vault { result.vault ≡ self.vault }
         ensures eyes { result.eyes.items ≡ self.eyes }
         ensures old { option_map arc_value result.old ≡ self.order.old }
