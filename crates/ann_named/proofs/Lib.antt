@@ -1,3 +1,4 @@
 pub mod Entries
 pub mod Current
 pub mod Numbers
+pub mod Frames
