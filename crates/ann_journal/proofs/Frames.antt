@@ -1,6 +1,7 @@
 -- Logging a frame of entries.
 use Rattle.std.proofs.Common.{◌≡◌, ℕ, true, List, [], ◌∷◌, ◌++◌, refl, sym, ap, ap₂, subst, ◌∙◌, arith, length, eqb-true, inl, inr, ◌⊎◌}
-use Rattle.std.proofs.lemmas.Bool.{and_parts}
+use Rattle.std.specs.Prelude.{Result, Ok, Err, IsErr}
+use Rattle.std.proofs.lemmas.Bool.{and_parts, false≢true}
 use Rattle.ann_types.specs.Fold.{State, step, fold_of}
 use Rattle.ann_types.specs.Index.{Index}
 use Rattle.ann_types.specs.Legal.{may_follow, legal_from, IsLegal}
@@ -26,10 +27,12 @@ use Rattle.ann_state.specs.List.{list_on}
 use Rattle.ann_state.specs.State.{AreKept}
 use Rattle.ann_vault.specs.Held.{Holding}
 use Rattle.ann_account.specs.Account.{AccountView, IsAccountOf, IsSameBut}
-use Rattle.ann_account.specs.Steps.{CanNote, LeadOn, StillLead}
+use Rattle.ann_account.specs.Steps.{CanNote, LeadOn, MayEndWith, StillLead}
+use Rattle.ann_segment.specs.Segment.{SegmentView}
 use Rattle.ann_journal.specs.Journal.{JournalView, index_in}
-use Rattle.ann_journal.specs.Logged.{CanLog}
+use Rattle.ann_journal.specs.Logged.{CanLog, CanLogAll, CanLogEnd, MayGrow, StaysSafe}
 use Rattle.ann_journal.specs.Safe.{IsSafe}
+use Rattle.ann_journal.proofs.Keeping.{kept_more}
 
 -- ---- nothing was done
 
@@ -112,6 +115,11 @@ safe_doubt D held old new h es tells is legal longer kept more during same = rec
     by_case a b (inl stands) = stand_kept held new.params new.book (held_of old) a b (sym same.params) (sym same.book) (kept_here D held old h tells is legal kept) stands
     by_case a b (inr stands) = stand_kept held new.params new.book (extended (held_of old) es) a b (sym same.params) (sym same.book) (kept_list D held old h es tells is longer more) stands
 
+-- a refusal leaves it safe for the list
+pub safe_refused : {F T R : Type 0} (D : Ghosts F) (held : Holding) (log : LogView F) (h : BasedList) (es : List Entry) (result : Result T R) → IsErr result → IsSafe D held log h → StaysSafe D held log h es result
+safe_refused D held log h es (Ok done) refused safe = absurd (false≢true refused)
+safe_refused D held log h es (Err why) refused safe = safe
+
 -- ---- what is noted
 
 -- more room changes nothing of what is known
@@ -130,4 +138,19 @@ pub can_note : {F S : Type 0} (D : Ghosts F) (h : BasedList) (es : List Entry) (
 can_note D h es j new can same = record {
   account_is = still_account (index_in j.log) h j.account new same can.journal_is.account_is;
   legal = can.legal;
+}
+
+pub may_end : {F S : Type 0} (D : Ghosts F) (h : BasedList) (by : ℕ) (segment : SegmentView S) (j : JournalView F S) (new : AccountView S) → CanLogEnd D h by segment j → IsSameBut j.account new → MayEndWith (index_in j.log) h by segment new
+may_end D h by segment j new can same = record {
+  note = can_note D h (End by segment.number ∷ []) j new can.frame same;
+  ends = can.ends.ends;
+}
+
+-- ---- entries that are no Ends
+
+-- what a vault holds for a list, it holds for the list with them
+pub may_grow : {F S : Type 0} (D : Ghosts F) (held : Holding) (h : BasedList) (es : List Entry) (j : JournalView F S) → CanLogAll D h es j → IsSafe D held j.log h → MayGrow D held j.log h es
+may_grow D held h es j can safe = record {
+  safe = safe;
+  longer = kept_more held j.log.params j.log.book.book h es can.frame.journal_is.legal can.no_end safe.list;
 }

@@ -9,9 +9,10 @@ use Rattle.ann_laws.specs.Replays.{is_end}
 use Rattle.ann_disk.specs.declared.file.LogFile.{Ghosts}
 use Rattle.ann_log.specs.LogView.{LogView}
 use Rattle.ann_log.specs.Appended.{HasAppended, HasNotAppended, IsSameLog}
-use Rattle.ann_account.specs.Account.{IsSameBut}
+use Rattle.ann_account.specs.Account.{HasRoom, IsSameBut}
 use Rattle.ann_account.specs.Steps.{IsNoted, MayEndWith}
 use Rattle.ann_segment.specs.Segment.{SegmentView}
+use Rattle.ann_state.specs.State.{AreKept}
 use Rattle.ann_vault.specs.Held.{Holding}
 use Rattle.ann_journal.specs.Journal.{JournalView, IsJournalOf, index_in}
 use Rattle.ann_journal.specs.Safe.{IsSafe}
@@ -51,6 +52,19 @@ module _ {F S : Type 0} (D : Ghosts F) (h : BasedList) where
     pub account : IsSameBut old.account new.account
     pub journal_is : IsJournalOf D h new
 
+  -- the entries stand behind the list, in one frame, and there is room to note them
+  pub record HasStored (entries : List Entry) (old new : JournalView F S) : Type 0 where
+    pub log : HasAppended D old.log entries new.log
+    pub same_log : IsSameLog old.log new.log
+    pub open_now : new.log.is_closed ≡ false
+    pub account : IsSameBut old.account new.account
+    pub room : HasRoom (length entries) new.account
+
+  abbrev pub IsStoreOutcome : {T : Type 0} → List Entry → JournalView F S → JournalView F S → Result T Unlogged → Type 0
+  IsStoreOutcome entries old new (Ok done) = HasStored entries old new
+  IsStoreOutcome entries old new (Err Memory) = IsUntouched old new
+  IsStoreOutcome entries old new (Err Fault) = HasNotLogged old new
+
   -- the entries stand behind the list, in one frame, and wait to be shown
   pub record HasLogged (entries : List Entry) (old new : JournalView F S) : Type 0 where
     pub log : HasAppended D old.log entries new.log
@@ -63,6 +77,11 @@ module _ {F S : Type 0} (D : Ghosts F) (h : BasedList) where
   IsLogOutcome entries old new (Ok done) = HasLogged entries old new
   IsLogOutcome entries old new (Err Memory) = IsUntouched old new
   IsLogOutcome entries old new (Err Fault) = HasNotLogged old new
+
+-- a place is safe for a list, and its vault holds what the list with these entries names
+pub record MayGrow {F : Type 0} (D : Ghosts F) (held : Holding) (log : LogView F) (h : BasedList) (entries : List Entry) : Type 0 where
+  pub safe : IsSafe D held log h
+  pub longer : AreKept held log.params log.book.book (with_entries h entries)
 
 -- a place stays safe: for the list with the entries where they were logged, and else for the list
 abbrev pub StaysSafe : {F T R : Type 0} → Ghosts F → Holding → LogView F → BasedList → List Entry → Result T R → Type 0

@@ -8,6 +8,7 @@
 mod entries;
 mod journal;
 mod logging;
+mod marks;
 mod refused;
 mod update;
 

@@ -6,7 +6,7 @@ ghost use Rattle.ann_log.specs.Told.{LeaveFiles};
 ghost use Rattle.ann_account.specs.Steps.{StillLead};
 ghost use Rattle.ann_vault.specs.Held.{Holding};
 ghost use Rattle.ann_journal.specs.Journal.{index_in};
-ghost use Rattle.ann_journal.specs.Logged.{CanLogAll, IsLogOutcome, StaysSafe};
+ghost use Rattle.ann_journal.specs.Logged.{CanLog, CanLogAll, IsLogOutcome, IsStoreOutcome, MayGrow, StaysSafe};
 ghost use Rattle.ann_journal.specs.Safe.{IsSafe};
 
 use crate::journal::Journal;
@@ -17,6 +17,30 @@ use ann_types::Entry;
 use ann_vault::Sealed;
 
 impl<F: LogFile, S: Sealed> Journal<F, S> {
+    /// Stores a frame of 1 to 64 entries in the log, with room to note them. They aren't noted yet.
+    ///
+    /// # Errors
+    ///
+    /// `Memory`, with nothing logged; or `Fault` where the log failed, which is closed then.
+    pub(crate) fn store(&mut self, entries: &[Entry]) -> Result<(), Unlogged>
+        requires { (h : BasedList) × CanLog F.LogFile h entries.now self.old }
+        ensures stored { (h : BasedList) → CanLog F.LogFile h entries.now self.old →
+            IsStoreOutcome F.LogFile h entries.now self.old self.new result }
+        ensures during { LeaveFiles F.LogFile (files_of self.old.log) (files_of self.new.log)
+            (IsBeforeOrAfter (held_of self.old.log) entries.now) }
+        ensures safe { F.tells → (held : Holding) (h : BasedList)
+            → CanLog F.LogFile h entries.now self.old
+            → MayGrow F.LogFile held self.old.log h entries.now
+            → StaysSafe F.LogFile held self.new.log h entries.now result }
+    {
+        let _open = self.log.is_closed();
+        self.account.reserve(entries.len() as u32)?;
+        match self.log.append(entries) {
+            Ok(()) => Ok(()),
+            Err(Disk) => Err(Unlogged::Fault),
+        }
+    }
+
     /// Logs a frame of 1 to 64 entries, of which none is an End, and notes them.
     ///
     /// # Errors
@@ -38,16 +62,8 @@ impl<F: LogFile, S: Sealed> Journal<F, S> {
             → StaysSafe F.LogFile held self.new.log h entries.items result }
     {
         let _at = self.log.count();
-        let _open = self.log.is_closed();
-        if self.account.reserve(entries.len() as u32).is_err() {
-            return Err(Unlogged::Memory);
-        }
-        match self.log.append(&entries) {
-            Ok(()) => {
-                self.account.note_all(entries);
-                Ok(())
-            }
-            Err(Disk) => Err(Unlogged::Fault),
-        }
+        self.store(&entries)?;
+        self.account.note_all(entries);
+        Ok(())
     }
 }

@@ -1,5 +1,6 @@
 // Why a call of an index is refused.
 ghost use Rattle.std.specs.Prelude.{◌≡◌};
+ghost use Rattle.ann_journal.specs.declared.refused.Unlogged.TheVariants.{Memory as NoRoom};
 ghost use Rattle.ann_journal.specs.declared.refused.UpdateRefused.TheVariants.{Memory as NoMemory};
 
 use ann_types::Tag;
@@ -78,4 +79,12 @@ pub enum Unlogged {
     /// A call of the log failed. The log is closed, and whether they stand there is in doubt until it is opened again.
     #[error("the log failed")]
     Fault,
+}
+
+impl From<AllocError> for Unlogged {
+    ghost from_gives = { λ _ e. e ≡ NoRoom };
+
+    fn from(_error: AllocError) -> Self {
+        Unlogged::Memory
+    }
 }

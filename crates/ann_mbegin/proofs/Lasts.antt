@@ -1,8 +1,9 @@
 -- A job stays that of the open Begin while the list grows.
-use Rattle.std.proofs.Common.{◌≡◌, ℕ, ◌+◌, ◌*◌, ◌<◌, true, false, List, sym, subst, ◌∙◌, arith}
+use Rattle.std.proofs.Common.{◌≡◌, ℕ, ◌+◌, ◌*◌, ◌<◌, true, false, not, List, sym, subst, ◌∙◌, arith}
+use Rattle.std.specs.List.{list_all}
 use Rattle.std.specs.Prelude.{Option, Some, None}
 use Rattle.ann_types.specs.Index.{Index}
-use Rattle.ann_types.specs.Lists.{BasedList, with_entry, next_pid}
+use Rattle.ann_types.specs.Lists.{BasedList, with_entries, with_entry, next_pid}
 use Rattle.ann_types.specs.Fold.{Begun, fold_of}
 use Rattle.ann_types.specs.Legal.{IsLegal, may_follow}
 use Rattle.ann_types.specs.declared.entry.Entry.{Entry}
@@ -11,6 +12,7 @@ use Rattle.ann_segment.specs.Segment.{SegmentView}
 use Rattle.ann_named.specs.Named.{named_in, IsNamed, AreBelow}
 use Rattle.ann_named.proofs.Current.{named_same}
 use Rattle.ann_named.proofs.Entries.{named_push, named_stays}
+use Rattle.ann_named.proofs.Frames.{lasts_all}
 use Rattle.ann_named.proofs.Numbers.{named_older}
 use Rattle.ann_mlaws.specs.Plan.{IsLti}
 use Rattle.ann_merge.specs.Job.{Order}
@@ -34,6 +36,17 @@ job_lasts index h e order m n w =
 pub lti_lasts : {S : Type 0} (bytes : S → List ℕ) (index : Index) (h : BasedList) (e : Entry) (order : Order S) → may_follow index.params h (fold_of index h) e ≡ true → is_end e ≡ false → IsJobOf index h order → IsLti bytes index order.old (fold_of index h).lti → IsLti bytes index order.old (fold_of index (with_entry h e)).lti
 lti_lasts bytes index h e order m n w held =
     subst (IsLti bytes index order.old) (sym (fold_keeps index h e w.begun m n w.open_now).lti) held
+
+-- ---- over a frame
+
+pub job_lasts_all : {S : Type 0} (index : Index) (h : BasedList) (es : List Entry) (order : Order S) → IsLegal index (with_entries h es) → list_all (λ e. not (is_end e)) es ≡ true → IsJobOf index h order → IsJobOf index (with_entries h es) order
+job_lasts_all index h es order = lasts_all index (λ g. IsJobOf index g order) (λ g e l. job_lasts index g e order) h es
+
+pub lti_lasts_all : {S : Type 0} (bytes : S → List ℕ) (index : Index) (h : BasedList) (es : List Entry) (order : Order S) → IsLegal index (with_entries h es) → list_all (λ e. not (is_end e)) es ≡ true → IsJobOf index h order → IsLti bytes index order.old (fold_of index h).lti → IsLti bytes index order.old (fold_of index (with_entries h es)).lti
+lti_lasts_all bytes index h es order l n w held =
+    (lasts_all index (λ g. IsJobOf index g order × IsLti bytes index order.old (fold_of index g).lti)
+    (λ g e legal m none both. (job_lasts index g e order m none both.0, lti_lasts bytes index g e order m none both.0 both.1))
+    h es l n (w, held)).1
 
 -- ---- numbers
 

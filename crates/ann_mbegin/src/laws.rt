@@ -1,7 +1,8 @@
 // How an open merge goes on with its list. A law is a function that does nothing, whose contract is the law.
-ghost use Rattle.std.specs.Prelude.{◌≡◌, ◌+◌, ◌*◌, ◌<◌, true, false, Option, Some};
+ghost use Rattle.std.specs.Prelude.{◌≡◌, ◌+◌, ◌*◌, ◌<◌, true, false, not, List, Option, Some};
+ghost use Rattle.std.specs.List.{list_all};
 ghost use Rattle.ann_types.specs.Index.{Index};
-ghost use Rattle.ann_types.specs.Lists.{BasedList, with_entry};
+ghost use Rattle.ann_types.specs.Lists.{BasedList, with_entries, with_entry};
 ghost use Rattle.ann_types.specs.Fold.{Begun, fold_of};
 ghost use Rattle.ann_types.specs.Legal.{IsLegal, may_follow};
 ghost use Rattle.ann_types.specs.declared.entry.Entry.{Entry};
@@ -34,6 +35,18 @@ pub fn lasting<S: Sealed>()
         → IsLegal index h → may_follow index.params h (fold_of index h) e ≡ true → is_end e ≡ false
         → IsJobOf index h order → IsLti S.bytes index order.old (fold_of index h).lti
         → IsLti S.bytes index order.old (fold_of index (with_entry h e)).lti }
+{}
+
+/// And so they do with a frame of entries, none of which is an End.
+pub fn lasting_all<S: Sealed>()
+    ensures job { (index : Index) (h : BasedList) (es : List Entry) (order : Order S)
+        → IsLegal index (with_entries h es) → list_all (λ e. not (is_end e)) es ≡ true
+        → IsJobOf index h order
+        → IsJobOf index (with_entries h es) order }
+    ensures lti { (index : Index) (h : BasedList) (es : List Entry) (order : Order S)
+        → IsLegal index (with_entries h es) → list_all (λ e. not (is_end e)) es ≡ true
+        → IsJobOf index h order → IsLti S.bytes index order.old (fold_of index h).lti
+        → IsLti S.bytes index order.old (fold_of index (with_entries h es)).lti }
 {}
 
 /// The segment that a list's job makes may end its merge.

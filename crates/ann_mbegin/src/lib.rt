@@ -9,4 +9,4 @@ mod input;
 mod laws;
 
 pub use input::MergeInput;
-pub use laws::{ending, lasting, numbering};
+pub use laws::{ending, lasting, lasting_all, numbering};

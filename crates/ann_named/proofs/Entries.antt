@@ -1,7 +1,8 @@
 -- One more entry: the number that is named, the open Begin, and the list up to it.
-use Rattle.std.proofs.Common.{◌≡◌, ℕ, true, false, cond, eqb, List, [], ◌∷◌, ◌++◌, refl, sym, ap, ◌∙◌, length}
+use Rattle.std.proofs.Common.{◌≡◌, ℕ, true, false, not, cond, eqb, List, [], ◌∷◌, ◌++◌, refl, sym, ap, ◌∙◌, length}
 use Rattle.std.specs.Prelude.{Option, Some, None}
-use Rattle.std.proofs.lemmas.Bool.{false≢true}
+use Rattle.std.specs.List.{list_all}
+use Rattle.std.proofs.lemmas.Bool.{false≢true, and_parts, not-true}
 use Rattle.ann_types.specs.Graph.{Graph, is_empty}
 use Rattle.ann_types.specs.Put.{put}
 use Rattle.ann_types.specs.Index.{Index}
@@ -11,17 +12,17 @@ use Rattle.ann_types.specs.declared.params.Params.{Params}
 use Rattle.ann_types.specs.declared.entry.Entry.{Entry}
 use Rattle.ann_types.specs.declared.entry.Entry.TheVariants.{Insert, Delete, Begin, End, Replace}
 use Rattle.ann_types.proofs.Options.{some_is}
-use Rattle.ann_laws.specs.Replays.{is_end}
+use Rattle.ann_laws.specs.Replays.{is_end, LastMerge}
 use Rattle.ann_named.specs.Named.{named_after, named_from, named_in}
 
 -- ---- the number
 
-named_append : (number : ℕ) (es : List Entry) (e : Entry) → named_from number (es ++ e ∷ []) ≡ named_after (named_from number es) e
-named_append number [] e = refl
-named_append number (x ∷ es) e = named_append (named_after number x) es e
+pub named_then : (number : ℕ) (es fs : List Entry) → named_from number (es ++ fs) ≡ named_from (named_from number es) fs
+named_then number [] fs = refl
+named_then number (e ∷ es) fs = named_then (named_after number e) es fs
 
 pub named_push : (h : BasedList) (e : Entry) → named_in (with_entry h e) ≡ named_after (named_in h) e
-named_push h e = named_append h.base.segment h.entries e
+named_push h e = named_then h.base.segment h.entries (e ∷ [])
 
 pub named_stays : (number : ℕ) (e : Entry) → is_end e ≡ false → named_after number e ≡ number
 named_stays number (Insert by tag vector) n = refl
@@ -29,6 +30,20 @@ named_stays number (Delete by tag) n = refl
 named_stays number (Begin by) n = refl
 named_stays number (End by segment) n = absurd (false≢true (sym n))
 named_stays number (Replace by tag vector) n = refl
+
+-- entries that are no Ends name no other
+pub none_named : (number : ℕ) (es : List Entry) → list_all (λ e. not (is_end e)) es ≡ true → named_from number es ≡ number
+none_named number [] n = refl
+none_named number (e ∷ es) n =
+    let both = and_parts (not (is_end e)) (list_all (λ x. not (is_end x)) es) n in
+    none_named (named_after number e) es both.1 ∙ named_stays number e (not-true (is_end e) both.0)
+
+-- the last merge names its segment
+pub last_named : (number : ℕ) (h : BasedList) (m : LastMerge h) → named_from number h.entries ≡ m.segment
+last_named number h m =
+    ap (named_from number) m.merge.entries
+    ∙ named_then number (m.before ++ Begin m.merge.begin_by ∷ m.inside) (End m.merge.end_by m.segment ∷ m.behind)
+    ∙ none_named m.segment m.behind m.merge.last
 
 -- ---- the open Begin
 

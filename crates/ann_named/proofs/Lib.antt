@@ -2,3 +2,4 @@ pub mod Entries
 pub mod Current
 pub mod LastEnd
 pub mod Numbers
+pub mod Frames

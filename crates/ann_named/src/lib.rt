@@ -2,10 +2,10 @@
 //! those which an open merge leaves behind.
 #![tactic(auto)]
 
-ghost use Rattle.std.specs.Prelude.{◌≡◌, ◌+◌, ◌*◌, ◌<◌, ℕ, true, false, List, Option, Some};
-ghost use Rattle.std.specs.List.{list_any};
+ghost use Rattle.std.specs.Prelude.{◌≡◌, ◌+◌, ◌*◌, ◌<◌, ℕ, true, false, not, List, Option, Some};
+ghost use Rattle.std.specs.List.{list_all, list_any};
 ghost use Rattle.ann_types.specs.Index.{Index};
-ghost use Rattle.ann_types.specs.Lists.{BasedList, bare, next_pid, with_entry};
+ghost use Rattle.ann_types.specs.Lists.{BasedList, bare, next_pid, with_entries, with_entry};
 ghost use Rattle.ann_types.specs.Fold.{Begun, fold_of};
 ghost use Rattle.ann_types.specs.Legal.{IsLegal, may_follow};
 ghost use Rattle.ann_types.specs.declared.entry.Entry.{Entry};
@@ -30,6 +30,14 @@ pub fn staying<S: Sealed>()
         → IsLegal index h → may_follow index.params h (fold_of index h) e ≡ true → is_end e ≡ false
         → IsCurrent index h segment
         → IsCurrent index (with_entry h e) segment }
+{}
+
+/// And so it does with a frame of entries, none of which is an End.
+pub fn staying_all<S: Sealed>()
+    ensures { (index : Index) (h : BasedList) (es : List Entry) (segment : Option (SegmentView S))
+        → IsLegal index (with_entries h es) → list_all (λ e. not (is_end e)) es ≡ true
+        → IsCurrent index h segment
+        → IsCurrent index (with_entries h es) segment }
 {}
 
 /// An End makes the segment that it names the current one.
