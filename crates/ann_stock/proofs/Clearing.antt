@@ -1,5 +1,5 @@
 -- Retired segments that are cleared, one after the other.
-use Rattle.std.proofs.Common.{◌≡◌, ◌≢◌, ◌==◌, ℕ, zero, suc, ◌+◌, ◌<◌, ◌≤◌, Bool, true, false, List, [], ◌∷◌, ◌++◌, inl, inr, ◌⊎◌, None, refl, sym, ap, subst, ◌∙◌, append_assoc, arith, length, get_or, take, drop}
+use Rattle.std.proofs.Common.{◌≡◌, ◌≢◌, ◌==◌, ℕ, suc, ◌<◌, Bool, true, false, List, [], ◌∷◌, ◌++◌, inl, inr, ◌⊎◌, None, refl, sym, ap, subst, ◌∙◌, append_assoc, arith, length, get_or, take, drop}
 use Rattle.std.specs.Bool.{MatchBool}
 use Rattle.std.specs.Prelude.{All}
 use Rattle.std.specs.FinMap.{get, remove}

@@ -37,17 +37,17 @@ pub record IsCleared {S : Type 0} (tells : Type 0) (base : ℕ) (retired stay : 
   pub answer : calm ≡ (length failed == 0)
   pub rose : MatchBool calm (now ≡ before) (Rose before now)
 
--- they were cleared with a vault at hand; the eyes and the room are as before
-pub record IsClearedBy {V E S : Type 0} (tells : Type 0) (held : V → Holding) (faults : V → ℕ) (base : ℕ) (vault : V) (eyes : List E) (old new : StockView V E S) (calm : Bool) : Type 0 where
+-- they were cleared with the vault at hand; the eyes and the room are as before
+pub record IsClearedAtHand {V E S : Type 0} (tells : Type 0) (held : V → Holding) (faults : V → ℕ) (base : ℕ) (vault : V) (eyes : List E) (old new : StockView V E S) (calm : Bool) : Type 0 where
   pub after : V
   pub tools : new.tools ≡ AtHand after eyes
   pub room : new.room ≡ old.room
   pub cleared : IsCleared tells base old.retired new.retired (held vault) (held after) (faults vault) (faults after) calm
 
--- a stock was cleared, where its vault is at hand
+-- a stock was cleared; where its vault isn't at hand, it is as before
 module _ {V E S : Type 0} (tells : Type 0) (held : V → Holding) (faults : V → ℕ) (base : ℕ) where
   abbrev pub HasClearedBy : ToolsView V E S → StockView V E S → StockView V E S → Bool → Type 0
-  HasClearedBy (AtHand vault eyes) old new calm = IsClearedBy tells held faults base vault eyes old new calm
+  HasClearedBy (AtHand vault eyes) old new calm = IsClearedAtHand tells held faults base vault eyes old new calm
   HasClearedBy (GivenBack job) old new calm = (new ≡ old) × (calm ≡ true)
   HasClearedBy Out old new calm = (new ≡ old) × (calm ≡ true)
 

@@ -10,8 +10,8 @@ use ann_segment::Segment;
 use ann_vault::{Failed, Vault};
 use std::sync::Arc;
 
-/// Goes through the retired segments once. The base's is let go, one that nobody else holds is removed, and each other stays.
-/// Whether no removal failed.
+/// Goes through the retired segments once: the base's is let go, one that nobody else holds is removed, and each other stays.
+/// Whether no removal failed. Takes no memory, since each is taken from the front before one that stays goes behind the others.
 pub(crate) fn clear_retired<V: Vault>(
     vault: &mut V,
     retired: &mut Vec<Arc<Segment<V::Seal>>>,

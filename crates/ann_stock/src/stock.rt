@@ -121,7 +121,10 @@ impl<V: Vault, E: Eye<Seal = V::Seal>> Stock<V, E> {
         ensures { self.new ≡ ended self.old job }
     {
         let JobParts {
-            vault, eyes, old, ..
+            vault,
+            eyes,
+            old,
+            ..
         } = job.into_parts();
         if let Some(old) = old {
             self.retired.push_reserved(old);

@@ -16,6 +16,7 @@ pub(crate) enum Tools<V: Vault, E: Eye<Seal = V::Seal>> {
 /// The vault and the eyes of the workers.
 #[derive(Drop)]
 pub struct StockParts<V: Vault, E: Drop> {
+    /// The vault.
     pub vault: V,
     /// The eyes, in the order in which they were given.
     pub eyes: Vec<E>,

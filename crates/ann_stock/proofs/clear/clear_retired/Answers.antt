@@ -1,4 +1,4 @@
-use Rattle.std.proofs.Common.{◌≡◌, ◌-◌, ◌+◌, ◌<◌, ℕ, suc, ◌∷◌, List, map, length, vec_capacity, refl, sym, ap, subst, ◌∙◌, arith}
+use Rattle.std.proofs.Common.{◌≡◌, ◌-◌, ◌+◌, ◌<◌, suc, ◌∷◌, map, length, vec_capacity, refl, sym, ap, subst, ◌∙◌, arith}
 use Rattle.std.specs.Arc.{arc_value}
 use Rattle.std.specs.FinMap.{remove}
 use Rattle.std.proofs.lemmas.List.{length-map, map-append}
@@ -32,9 +32,10 @@ loop-preserved g c =
     let clearing : IsClearing tells c.args.base retired held faults (x ∷ after) (suc left) (g.V.Vault.held c.loop.vault) (g.V.Vault.faults c.loop.vault) c.loop.calm =
     rw (front, one_more) at c.loop.invariant.clearing in
     let number : c.number.result ≡ x.number = c.number.ensures ∙ ap (λ (s : SegmentView _). s.number) c.deref.ensures in
+    let room : vec_capacity c.remove-segment.new.self ≡ vec_capacity c.args.retired.now = c.remove-segment.ensures.capacity ∙ c.loop.invariant.room in
     elim c.if-number-base.branch [
       | then-number-base+in-Ok+in-Ok-remove w ↦ record {
-        room = rw w.retired-is (c.remove-segment.ensures.capacity ∙ c.loop.invariant.room);
+        room = rw w.retired-is room;
         clearing =
             rw (w.retired-is, w.vault-is, w.calm-is)
             (removes_one tells c.args.base retired held faults x after left (g.V.Vault.held c.loop.vault) (g.V.Vault.faults c.loop.vault) c.loop.calm clearing
@@ -44,7 +45,7 @@ loop-preserved g c =
             w.in-Ok-remove.ensures.cause.calm);
       }
       | then-number-base+in-Ok+in-Err-remove w ↦ record {
-        room = rw w.retired-is (c.remove-segment.ensures.capacity ∙ c.loop.invariant.room);
+        room = rw w.retired-is room;
         clearing =
             rw (w.retired-is, w.vault-is, w.calm-is)
             (fails_one tells c.args.base retired held faults x after left (g.V.Vault.held c.loop.vault) (g.V.Vault.faults c.loop.vault) c.loop.calm clearing
@@ -54,14 +55,14 @@ loop-preserved g c =
             w.in-Err-remove.ensures.cause.failed);
       }
       | then-number-base+in-Err w ↦ record {
-        room = rw w.retired-is (w.push_reserved.ensures.capacity ∙ c.remove-segment.ensures.capacity ∙ c.loop.invariant.room);
+        room = rw w.retired-is (w.push_reserved.ensures.capacity ∙ room);
         clearing =
             rw (w.retired-is, w.vault-is, w.calm-is, w.push_reserved.ensures.items, w.in-Err.ensures.err, map-append)
             (keeps tells c.args.base retired held faults x after left (g.V.Vault.held c.loop.vault) (g.V.Vault.faults c.loop.vault) c.loop.calm clearing
             (λ same. w.if-number-base.true (number ∙ same)));
       }
       | else-number-base w ↦ record {
-        room = rw w.retired-is (c.remove-segment.ensures.capacity ∙ c.loop.invariant.room);
+        room = rw w.retired-is room;
         clearing =
             rw (w.retired-is, w.vault-is, w.calm-is)
             (lets_go tells c.args.base retired held faults x after left (g.V.Vault.held c.loop.vault) (g.V.Vault.faults c.loop.vault) c.loop.calm clearing (sym number ∙ w.if-number-base.false));
