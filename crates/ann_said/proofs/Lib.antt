@@ -1,0 +1,4 @@
+pub mod Prefixes
+pub mod Owning
+pub mod Adding
+pub mod Replying

@@ -1,0 +1,5 @@
+pub mod Owned
+pub mod Seen
+pub mod Table
+pub mod Said
+pub mod Knowing
