@@ -8,7 +8,7 @@ use Rattle.ann_said.specs.Owned.{Placed, own}
 use Rattle.ann_said.specs.Seen.{line_seen}
 use Rattle.ann_said.specs.Table.{Stands}
 use Rattle.ann_said.specs.Said.{Line, Spot, start, turn_at, behind_line, behind_lines, AllStand, SaysAll}
-use Rattle.ann_said.specs.Knowing.{Known, known_first, with_more, Learns, spot, MayLeave, SaidUpTo, IsSaidSoFar}
+use Rattle.ann_said.specs.Knowing.{Known, known_first, with_more, Learns, spot, MayLeave, SaidUpTo, IsSaidSoFar, MakesSoFar}
 use Rattle.ann_said.proofs.Prefixes.{begins_self, begins_trans, begins_length}
 
 -- ---- one more line
@@ -69,6 +69,13 @@ said_still index h0 h old new ls more s = record {
 
 pub said_learned : (index : Index) (h0 : BasedList) (old new : Known) (ls : List Line) → Learns old new → IsSaidSoFar index h0 old ls → IsSaidSoFar index h0 new ls
 said_learned index h0 old new ls more so h may = said_still index h0 h old new ls more (so h (may_before index h0 h old new more may))
+
+-- what a command has made stays right, as is said of it by its client
+pub made_learned : (index : Index) (h0 : BasedList) (old new : Known) (count : ℕ) (AreRight : ℕ → List Placed → Type 0) → Learns old new → MakesSoFar index h0 old count (AreRight old.client) → MakesSoFar index h0 new count (AreRight new.client)
+made_learned index h0 old new count AreRight more so h may =
+    let longer : Learns (with_more old count) (with_more new count) = record { client = more.client; entries = ap (λ (n : ℕ). n + count) more.entries; seen = more.seen; told = more.told; stop = more.stop } in
+    subst (λ (c : ℕ). AreRight c (take count (drop new.entries (own h0 h c)))) (sym more.client)
+    (subst (λ (n : ℕ). AreRight old.client (take count (drop n (own h0 h old.client)))) (sym more.entries) (so h (may_before index h0 h (with_more old count) (with_more new count) longer may)))
 
 pub said_whole : (index : Index) (h0 h : BasedList) (k : Known) (ls : List Line) → IsSaidSoFar index h0 k ls → MayLeave index h0 k h → k.entries ≡ length (own h0 h k.client) → SaysAll index h0 h k.client ls
 said_whole index h0 h k ls so may all =

@@ -2,3 +2,5 @@ pub mod Prefixes
 pub mod Owning
 pub mod Adding
 pub mod Replying
+pub mod MergeReplies
+pub mod FillReplies

@@ -91,3 +91,9 @@ own_changes client n (c ∷ cs) =
     let here : Placed = record { position = n; entry = entry_of client c } in
     ap (λ b. cond b (here ∷ filter (is_of client) (placed_from (n + 1) (map (entry_of client) cs))) (filter (is_of client) (placed_from (n + 1) (map (entry_of client) cs)))) (eq-eqb (by_of (entry_of client c)) client (by_entry client c))
     ∙ ap (λ ps. here ∷ ps) rest
+
+-- and so is a mark
+pub own_mark : (client n : ℕ) (e : Entry) → by_of e ≡ client → filter (is_of client) (placed_from n (e ∷ [])) ≡ placed_from n (e ∷ [])
+own_mark client n e by =
+    let here : Placed = record { position = n; entry = e } in
+    ap (λ b. cond b (here ∷ []) []) (eq-eqb (by_of e) client by)

@@ -1,5 +1,5 @@
 -- What each reply of a client is worth, from what the client knows.
-use Rattle.std.proofs.Common.{◌≡◌, ◌≢◌, ℕ, ◌+◌, ◌-◌, ◌≤◌, max, Bool, true, false, List, [], ◌∷◌, ◌++◌, Option, Some, None, refl, sym, ap, ◌∙◌, subst, arith, map, filter, take, drop, length, inl, inr, length-append, length-drop, append_assoc, not}
+use Rattle.std.proofs.Common.{◌≡◌, ◌≢◌, ℕ, ◌+◌, ◌-◌, ◌≤◌, max, Bool, true, false, List, [], ◌∷◌, ◌++◌, Option, Some, None, refl, sym, ap, ◌∙◌, subst, arith, map, filter, take, drop, length, inl, inr, length-append, length-drop, append_assoc, take-add, not}
 use Rattle.std.proofs.lemmas.List.{take_at, drop_at, length-take-le, length-map}
 use Rattle.std.proofs.lemmas.List.Filters.{length-filter_both}
 use Rattle.ann_types.specs.Index.{Index}
@@ -11,17 +11,18 @@ use Rattle.ann_types.specs.declared.change.Change.{Change}
 use Rattle.ann_types.specs.declared.entry.Entry.{Entry}
 use Rattle.ann_types.specs.declared.hit.Hit.{Hit}
 use Rattle.ann_script.specs.Order.{Order, Apply, Find}
-use Rattle.ann_transcript.specs.declared.reply.UpdateWord.TheVariants.{LogFault, Stopped, Memory, MemoryLogged}
+use Rattle.ann_transcript.specs.declared.reply.UpdateWord.{UpdateWord}
+use Rattle.ann_transcript.specs.declared.reply.UpdateWord.TheVariants.{Dimension as Dimension', Full as Full', Present as Present', Absent as Absent', LogFault, Stopped, Memory, MemoryLogged}
 use Rattle.ann_transcript.specs.declared.reply.Reply.{Reply}
 use Rattle.ann_transcript.specs.declared.reply.Reply.TheVariants.{Update, Found, Search}
 use Rattle.ann_once.specs.Once.{accepted, word_of}
 use Rattle.ann_said.specs.Owned.{Placed, placed_from, own, reach, EndAt}
-use Rattle.ann_said.specs.Seen.{line_seen}
-use Rattle.ann_said.specs.Table.{Turn, IsBetween, IsAbout, AreAccepted, AreJudged, IsFound, Stands}
+use Rattle.ann_said.specs.Seen.{refusal_seen, line_seen}
+use Rattle.ann_said.specs.Table.{Turn, IsBetween, IsAbout, AreAccepted, AreJudged, AreRefused, IsFound, Stands}
 use Rattle.ann_said.specs.Said.{Line, line, Spot, start, turn_at, behind_line, behind_lines}
-use Rattle.ann_said.specs.Knowing.{Known, with_more, HasOwn, spot, MayLeave, SaidUpTo, IsSaidSoFar}
+use Rattle.ann_said.specs.Knowing.{Known, with_more, HasOwn, HasOwnCause, spot, MayLeave, SaidUpTo, IsSaidSoFar}
 use Rattle.ann_said.proofs.Prefixes.{begins_trans, begins_upto, begins_length, begins_entries, begins_shorter, upto_begins, upto_own, length_upto}
-use Rattle.ann_said.proofs.Owning.{length_placed, reach_placed, is_of, own_reach, own_then, own_begins, own_changes}
+use Rattle.ann_said.proofs.Owning.{length_placed, reach-append, reach_placed, is_of, own_reach, own_then, own_begins, own_changes}
 use Rattle.ann_said.proofs.Adding.{said_push}
 
 -- ---- what a prefix of the told list says of every list that the run may leave
@@ -51,6 +52,12 @@ tells h0 t h client count at more has =
       between = (after, omega (arith, long, longer));
       size = size;
     }
+
+-- the next entries are before the end of those so far and these
+pub next_reach : (n m : ℕ) (ps : List Placed) → reach (take m (drop n ps)) ≤ reach (take (n + m) ps)
+next_reach n m ps =
+    let both = ap reach (take-add n m ps) ∙ reach-append (take n ps) (take m (drop n ps)) in
+    omega (arith, both)
 
 -- ---- a line without entries
 
@@ -97,17 +104,17 @@ said_found index h0 known ls k l vector covers so h may =
 
 -- ---- updates that are refused by their changes
 
-judged_stands : (index : Index) (h0 h : BasedList) (t : Turn) (changes : List Change) (batch : Bool) (place at : ℕ) (why : Refusal) → AreJudged index h0 h t changes place why at → Stands index h0 h t (Apply changes batch) (Update (word_of place why at) batch)
-judged_stands index h0 h t changes batch place at (Dimension got want) judged = (judged, refl)
-judged_stands index h0 h t changes batch place at Full judged = (judged, refl)
-judged_stands index h0 h t changes batch place at (Present tag) judged = (judged, refl)
-judged_stands index h0 h t changes batch place at (Absent tag) judged = (judged, refl)
+pub judged_seen : (place at : ℕ) (why : Refusal) → refusal_seen (word_of place why at) ≡ at
+judged_seen place at (Dimension got want) = refl
+judged_seen place at Full = refl
+judged_seen place at (Present tag) = refl
+judged_seen place at (Absent tag) = refl
 
-judged_seen : (batch : Bool) (place at : ℕ) (why : Refusal) → line_seen [] (Update (word_of place why at) batch) ≡ at
-judged_seen batch place at (Dimension got want) = refl
-judged_seen batch place at Full = refl
-judged_seen batch place at (Present tag) = refl
-judged_seen batch place at (Absent tag) = refl
+pub judged_refused : (index : Index) (h0 h : BasedList) (t : Turn) (changes : List Change) (place at : ℕ) (why : Refusal) → AreJudged index h0 h t changes place why at → AreRefused index h0 h t changes (word_of place why at)
+judged_refused index h0 h t changes place at (Dimension got want) judged = judged
+judged_refused index h0 h t changes place at Full judged = judged
+judged_refused index h0 h t changes place at (Present tag) judged = judged
+judged_refused index h0 h t changes place at (Absent tag) judged = judged
 
 pub said_judged : (index : Index) (h0 : BasedList) (known : Known) (ls : List Line) (changes : List Change) (batch : Bool) (place : ℕ) (why : Refusal) (at : ℕ) → HasOwn h0 known.told known.client known.entries at → judge_all index.params (upto known.told at) known.client changes ≡ Some (place, why) → IsSaidSoFar index h0 known ls → IsSaidSoFar index h0 known (ls ++ line (Apply changes batch) (Update (word_of place why at) batch) 0 ∷ [])
 said_judged index h0 known ls changes batch place why at has refused so h may =
@@ -117,9 +124,9 @@ said_judged index h0 known ls changes batch place why at has refused so h may =
       about = record { between = t.between; earlier = t.far; none = refl };
       refused = ap (λ (g : BasedList). judge_all index.params g known.client changes) t.same ∙ refused;
     } in
-    let seen = judged_seen batch place at why in
+    let seen = judged_seen place at why in
     let long = has.long in
-    said_idle index h0 h known ls (Apply changes batch) (Update (word_of place why at) batch) s (judged_stands index h0 h (idle h0 h known s.covers) changes batch place at why right) (omega (arith, seen, long))
+    said_idle index h0 h known ls (Apply changes batch) (Update (word_of place why at) batch) s (judged_refused index h0 h (idle h0 h known s.covers) changes place at why right, refl) (omega (arith, seen, long))
 
 -- ---- updates that are accepted
 
@@ -201,13 +208,40 @@ said_accepted index h0 before known ls changes batch at has is so h may =
 
 -- ---- updates that end by their own cause
 
+pub caused_refused : (index : Index) (h0 h : BasedList) (t : Turn) (changes : List Change) (why : UpdateWord) → HasOwnCause why → t.own ≡ [] → AreRefused index h0 h t changes why
+caused_refused index h0 h t changes (Dimension' place got want at) cause none = absurd cause
+caused_refused index h0 h t changes (Full' place at) cause none = absurd cause
+caused_refused index h0 h t changes (Present' place tag at) cause none = absurd cause
+caused_refused index h0 h t changes (Absent' place tag at) cause none = absurd cause
+caused_refused index h0 h t changes LogFault cause none = none
+caused_refused index h0 h t changes (Stopped at) cause none = absurd cause
+caused_refused index h0 h t changes Memory cause none = none
+caused_refused index h0 h t changes (MemoryLogged at) cause none = absurd cause
+
+pub caused_seen : (why : UpdateWord) → HasOwnCause why → refusal_seen why ≡ 0
+caused_seen (Dimension' place got want at) cause = absurd cause
+caused_seen (Full' place at) cause = absurd cause
+caused_seen (Present' place tag at) cause = absurd cause
+caused_seen (Absent' place tag at) cause = absurd cause
+caused_seen LogFault cause = refl
+caused_seen (Stopped at) cause = absurd cause
+caused_seen Memory cause = refl
+caused_seen (MemoryLogged at) cause = absurd cause
+
+pub said_caused : (index : Index) (h0 : BasedList) (known : Known) (ls : List Line) (changes : List Change) (batch : Bool) (why : UpdateWord) → HasOwnCause why → IsSaidSoFar index h0 known ls → IsSaidSoFar index h0 known (ls ++ line (Apply changes batch) (Update why batch) 0 ∷ [])
+said_caused index h0 known ls changes batch why cause so h may =
+    let s = so h may in
+    let none = caused_seen why cause in
+    said_idle index h0 h known ls (Apply changes batch) (Update why batch) s (caused_refused index h0 h (idle h0 h known s.covers) changes why cause refl, refl) (omega (arith, none))
+
+pub stopped_at : (index : Index) (h0 h : BasedList) (known : Known) (at : ℕ) → MayLeave index h0 known h → known.stop ≡ at + 1 → at ≡ length_of h
+stopped_at index h0 h known at may stop = elim may.stop [
+  | inl none ↦ absurd (omega (arith, stop, none))
+  | inr length ↦ omega (arith, stop, length)
+]
+
 pub said_stopped : (index : Index) (h0 : BasedList) (known : Known) (ls : List Line) (changes : List Change) (batch : Bool) (at : ℕ) → known.stop ≡ at + 1 → IsSaidSoFar index h0 known ls → IsSaidSoFar index h0 known (ls ++ line (Apply changes batch) (Update (Stopped at) batch) 0 ∷ [])
-said_stopped index h0 known ls changes batch at stop so h may =
-    let is : at ≡ length_of h = elim may.stop [
-      | inl none ↦ absurd (omega (arith, stop, none))
-      | inr length ↦ omega (arith, stop, length)
-    ] in
-    said_idle index h0 h known ls (Apply changes batch) (Update (Stopped at) batch) (so h may) ((refl, is), refl) (omega arith)
+said_stopped index h0 known ls changes batch at stop so h may = said_idle index h0 h known ls (Apply changes batch) (Update (Stopped at) batch) (so h may) ((refl, stopped_at index h0 h known at may stop), refl) (omega arith)
 
 pub said_logged : (index : Index) (h0 : BasedList) (known : Known) (ls : List Line) (changes : List Change) (batch : Bool) (at : ℕ) → IsSaidSoFar index h0 known ls → IsSaidSoFar index h0 (with_more known (length changes)) (ls ++ line (Apply changes batch) (Update (MemoryLogged at) batch) (length changes) ∷ [])
 said_logged index h0 known ls changes batch at so h may =

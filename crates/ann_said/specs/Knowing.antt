@@ -3,6 +3,10 @@ use Rattle.std.specs.Prelude.{◌≡◌, ℕ, ◌+◌, ◌≤◌, ◌⊎◌, max
 use Rattle.ann_types.specs.Index.{Index}
 use Rattle.ann_types.specs.Lists.{BasedList, BeginsWith, upto, length_of}
 use Rattle.ann_types.specs.Legal.{IsLegal}
+use Rattle.ann_transcript.specs.declared.reply.UpdateWord.{UpdateWord}
+use Rattle.ann_transcript.specs.declared.reply.UpdateWord.TheVariants as update
+use Rattle.ann_transcript.specs.declared.reply.MergeWord.{MergeWord}
+use Rattle.ann_transcript.specs.declared.reply.MergeWord.TheVariants as merge
 use Rattle.ann_said.specs.Owned.{Placed, own}
 use Rattle.ann_said.specs.Said.{Line, Spot, start, behind_lines, AllStand}
 
@@ -47,6 +51,29 @@ spot h0 h k covers = record {
   seen = covers;
 }
 
+-- an update was refused, or a merge ended, by a cause of its own, which says nothing of the list
+abbrev pub HasOwnCause : UpdateWord → Type 0
+HasOwnCause (update.Dimension place got want at) = ⊥
+HasOwnCause (update.Full place at) = ⊥
+HasOwnCause (update.Present place tag at) = ⊥
+HasOwnCause (update.Absent place tag at) = ⊥
+HasOwnCause update.LogFault = Unit {0}
+HasOwnCause (update.Stopped at) = ⊥
+HasOwnCause update.Memory = Unit {0}
+HasOwnCause (update.MemoryLogged at) = ⊥
+
+abbrev pub MergeHasOwnCause : MergeWord → Type 0
+MergeHasOwnCause (merge.Merged segment at) = ⊥
+MergeHasOwnCause (merge.Nothing at) = ⊥
+MergeHasOwnCause (merge.Running at since) = ⊥
+MergeHasOwnCause merge.Shut = Unit {0}
+MergeHasOwnCause merge.Disk = Unit {0}
+MergeHasOwnCause (merge.BadSegment block) = Unit {0}
+MergeHasOwnCause merge.LogFault = Unit {0}
+MergeHasOwnCause (merge.Stopped at) = ⊥
+MergeHasOwnCause merge.Memory = Unit {0}
+MergeHasOwnCause (merge.MemoryLogged at) = ⊥
+
 module _ (index : Index) (h0 : BasedList) where
   -- a list that the run may leave, by what a client knows
   pub record MayLeave (k : Known) (h : BasedList) : Type 0 where
@@ -69,6 +96,6 @@ module _ (index : Index) (h0 : BasedList) where
   abbrev pub IsSaidSoFar : Known → List Line → Type 0
   IsSaidSoFar k lines = (h : BasedList) → MayLeave k h → SaidUpTo h k lines
 
-  -- So many entries are made by a command that is under way, and are right of every list that the run may leave.
+  -- So many entries are made by a command that is under way, which are right of every list that the run may leave.
   abbrev pub MakesSoFar : Known → ℕ → (List Placed → Type 0) → Type 0
   MakesSoFar k count AreRight = (h : BasedList) → MayLeave (with_more k count) h → AreRight (take count (drop k.entries (own h0 h k.client)))

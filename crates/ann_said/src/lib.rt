@@ -10,6 +10,10 @@
 //! whose contract is the law.
 #![tactic(auto)]
 
+mod fills;
 mod lines;
+mod merges;
 
+pub use fills::{cutting, filled, filling};
 pub use lines::{accepting, closing, failing, finding, judging, learning, logging, starting, stopping};
+pub use merges::{giving_back, idling, merged, merging};

@@ -7,14 +7,15 @@ ghost use Rattle.ann_types.specs.Judge.{Refusal, entry_of, judge_all};
 ghost use Rattle.ann_types.specs.Answer.{hits};
 ghost use Rattle.ann_types.specs.declared.change.Change.{Change};
 ghost use Rattle.ann_script.specs.Order.{Apply, Find};
-ghost use Rattle.ann_transcript.specs.declared.reply.UpdateWord.TheVariants.{LogFault, Stopped, Memory, MemoryLogged};
+ghost use Rattle.ann_transcript.specs.declared.reply.UpdateWord.{UpdateWord};
+ghost use Rattle.ann_transcript.specs.declared.reply.UpdateWord.TheVariants.{Stopped, MemoryLogged};
 ghost use Rattle.ann_transcript.specs.declared.reply.SearchWord.{SearchWord};
 ghost use Rattle.ann_transcript.specs.declared.reply.Reply.TheVariants.{Update, Found, Search};
 ghost use Rattle.ann_once.specs.Once.{accepted, word_of};
 ghost use Rattle.ann_said.specs.Owned.{own};
 ghost use Rattle.ann_said.specs.Table.{IsUnanswered};
 ghost use Rattle.ann_said.specs.Said.{Line, line, SaysAll};
-ghost use Rattle.ann_said.specs.Knowing.{Known, known_first, with_more, Learns, HasOwn, MayLeave, IsSaidSoFar};
+ghost use Rattle.ann_said.specs.Knowing.{Known, known_first, with_more, Learns, HasOwn, HasOwnCause, MayLeave, IsSaidSoFar};
 
 /// Before a client's first command nothing is said, and it knows the list with which the run began.
 pub fn starting()
@@ -58,12 +59,9 @@ pub fn accepting()
 
 /// A command that made no entry and has its own cause.
 pub fn failing()
-    ensures log_fault { (index : Index) (h0 : BasedList) (known : Known) (lines : List Line)
-        (changes : List Change) (batch : Bool) → IsSaidSoFar index h0 known lines
-        → IsSaidSoFar index h0 known (lines ++ line (Apply changes batch) (Update LogFault batch) 0 ∷ []) }
-    ensures memory { (index : Index) (h0 : BasedList) (known : Known) (lines : List Line)
-        (changes : List Change) (batch : Bool) → IsSaidSoFar index h0 known lines
-        → IsSaidSoFar index h0 known (lines ++ line (Apply changes batch) (Update Memory batch) 0 ∷ []) }
+    ensures update { (index : Index) (h0 : BasedList) (known : Known) (lines : List Line)
+        (changes : List Change) (batch : Bool) (why : UpdateWord) → HasOwnCause why → IsSaidSoFar index h0 known lines
+        → IsSaidSoFar index h0 known (lines ++ line (Apply changes batch) (Update why batch) 0 ∷ []) }
     ensures search { (index : Index) (h0 : BasedList) (known : Known) (lines : List Line)
         (k l : ℕ) (vector : List ℕ) (why : SearchWord) → IsUnanswered index vector why → IsSaidSoFar index h0 known lines
         → IsSaidSoFar index h0 known (lines ++ line (Find k l vector) (Search why) 0 ∷ []) }
