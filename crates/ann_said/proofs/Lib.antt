@@ -4,3 +4,4 @@ pub mod Adding
 pub mod Replying
 pub mod MergeReplies
 pub mod FillReplies
+pub mod Unaccompanied

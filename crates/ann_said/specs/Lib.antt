@@ -3,3 +3,4 @@ pub mod Seen
 pub mod Table
 pub mod Said
 pub mod Knowing
+pub mod Alone
