@@ -1,5 +1,5 @@
 -- One more line behind others, and what a client has said as it learns more.
-use Rattle.std.proofs.Common.{◌≡◌, ℕ, ◌+◌, ◌≤◌, max, List, [], ◌∷◌, ◌++◌, refl, sym, ap, ◌∙◌, subst, arith, take, drop, length, take-add, drop-drop, inl, inr}
+use Rattle.std.proofs.Common.{◌≡◌, ℕ, suc, ◌+◌, ◌<◌, ◌≤◌, max, List, [], ◌∷◌, ◌++◌, refl, sym, ap, ◌∙◌, subst, arith, take, drop, get_or, length, take-add, drop-drop, inl, inr}
 use Rattle.std.proofs.lemmas.List.{drop_all}
 use Rattle.std.proofs.lemmas.List.Sums.{fold_push}
 use Rattle.ann_types.specs.Index.{Index}
@@ -7,7 +7,7 @@ use Rattle.ann_types.specs.Lists.{BasedList, BeginsWith, length_of}
 use Rattle.ann_said.specs.Owned.{Placed, own}
 use Rattle.ann_said.specs.Seen.{line_seen}
 use Rattle.ann_said.specs.Table.{Stands}
-use Rattle.ann_said.specs.Said.{Line, Spot, start, turn_at, behind_line, behind_lines, AllStand, SaysAll}
+use Rattle.ann_said.specs.Said.{Line, Spot, start, turn_at, behind_line, behind_lines, Part, AllStand, SaysAll, AllSay}
 use Rattle.ann_said.specs.Knowing.{Known, known_first, with_more, Learns, spot, MayLeave, SaidUpTo, IsSaidSoFar, MakesSoFar}
 use Rattle.ann_said.proofs.Prefixes.{begins_self, begins_trans, begins_length}
 
@@ -84,3 +84,18 @@ said_whole index h0 h k ls so may all =
   where
     drop_whole : (n : ℕ) (ps : List Placed) → n ≡ length ps → drop n ps ≡ []
     drop_whole n ps e = drop_all n ps (omega (arith, e))
+
+-- ---- all clients
+
+say_from : (index : Index) (h0 h : BasedList) (n : ℕ) (parts : List Part) → ((i : ℕ) (p : Part) → i < length parts → SaysAll index h0 h (n + i) (get_or parts i p).lines) → AllSay index h0 h n parts
+say_from index h0 h n [] each = tt
+say_from index h0 h n (p ∷ ps) each =
+    let here : n + 0 ≡ n = omega arith in
+    let next : (i : ℕ) → n + suc i ≡ n + 1 + i = λ i. omega arith in
+    (
+      subst (λ (m : ℕ). SaysAll index h0 h m p.lines) here (each 0 p (omega arith)),
+      say_from index h0 h (n + 1) ps (λ i q lt. subst (λ (m : ℕ). SaysAll index h0 h m (get_or ps i q).lines) (next i) (each (suc i) q (omega (arith, lt)))),
+    )
+
+pub say_from_each : (index : Index) (h0 h : BasedList) (parts : List Part) → ((i : ℕ) (p : Part) → i < length parts → SaysAll index h0 h i (get_or parts i p).lines) → AllSay index h0 h 0 parts
+say_from_each index h0 h parts each = say_from index h0 h 0 parts (λ i p lt. (let same : i ≡ 0 + i = omega arith in subst (λ (m : ℕ). SaysAll index h0 h m (get_or parts i p).lines) same (each i p lt)))

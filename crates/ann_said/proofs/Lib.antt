@@ -5,3 +5,4 @@ pub mod Replying
 pub mod MergeReplies
 pub mod FillReplies
 pub mod Unaccompanied
+pub mod WorkedRuns

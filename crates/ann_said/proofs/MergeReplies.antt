@@ -1,6 +1,6 @@
 -- What the line of a merge is worth.
-use Rattle.std.proofs.Common.{◌≡◌, ℕ, ◌+◌, ◌-◌, ◌≤◌, max, Bool, true, false, List, [], ◌∷◌, ◌++◌, Option, Some, None, cond, refl, sym, ap, ◌∙◌, subst, arith, filter, take, drop, length, take-add, drop-drop, eq-eqb, length-drop}
-use Rattle.std.proofs.lemmas.List.{length-take-le}
+use Rattle.std.proofs.Common.{◌≡◌, ℕ, zero, suc, ◌+◌, ◌-◌, ◌≤◌, max, Bool, true, false, List, [], ◌∷◌, ◌++◌, Option, Some, None, cond, refl, sym, ap, ◌∙◌, subst, arith, filter, take, drop, length, take-add, drop-drop, eq-eqb, length-drop}
+use Rattle.std.proofs.lemmas.List.{length-take-le, drop-take, take_all, length-map}
 use Rattle.ann_types.specs.Index.{Index}
 use Rattle.ann_types.specs.Lists.{BasedList, upto, with_entry, length_of}
 use Rattle.ann_types.specs.Fold.{Begun, State, fold_of}
@@ -11,7 +11,7 @@ use Rattle.ann_script.specs.Order as order
 use Rattle.ann_transcript.specs.declared.reply.MergeWord.{MergeWord}
 use Rattle.ann_transcript.specs.declared.reply.MergeWord.TheVariants.{Merged, Nothing, Running, Shut, Disk, BadSegment, LogFault, Stopped, Memory, MemoryLogged}
 use Rattle.ann_transcript.specs.declared.reply.Reply.TheVariants.{Merge}
-use Rattle.ann_said.specs.Owned.{Placed, placed_from, by_of, own, reach, EndAt}
+use Rattle.ann_said.specs.Owned.{Placed, placed_from, by_of, own, entries_of, reach, EndAt}
 use Rattle.ann_said.specs.Seen.{merge_seen}
 use Rattle.ann_said.specs.Table.{Turn, MayBegin, IsAbout, IsMerged, IsIdle, IsRunning, IsMergeReply}
 use Rattle.ann_said.specs.Said.{Line, line, turn_at}
@@ -29,6 +29,29 @@ pub made_begin : (index : Index) (h0 before : BasedList) (known : Known) (at : �
 made_begin index h0 before known at has is h may =
     let e = ends h0 known.told h before known.client known.entries (Begin known.client ∷ []) at (λ n. own_mark known.client n (Begin known.client) refl) may.told has is in
     subst (MayBegin known.client) (sym e.next) refl
+
+-- the first of the entries that are left is the last of the client's
+last_mark : (client n : ℕ) (ps : List Placed) (before : List Entry) → length ps ≡ n + 1 → entries_of ps ≡ before ++ Begin client ∷ [] → MayBegin client (take 1 (drop n ps))
+last_mark client zero [] before size are = absurd (omega (arith, size))
+last_mark client (suc n) [] before size are = absurd (omega (arith, size))
+last_mark client zero (p ∷ []) [] size are = cc
+last_mark client zero (p ∷ []) (e ∷ []) size are = absurd (cc)
+last_mark client zero (p ∷ []) (e ∷ f ∷ before) size are = absurd (cc)
+last_mark client zero (p ∷ q ∷ ps) before size are = absurd (omega (arith, size))
+last_mark client (suc n) (p ∷ ps) [] size are = (let none = ap length are in let many = length-map ps (λ (q : Placed). q.entry) in absurd (omega (arith, size, none, many)))
+last_mark client (suc n) (p ∷ ps) (e ∷ before) size are = last_mark client n ps before (omega (arith, size)) cc
+
+pub made_last : (index : Index) (h0 : BasedList) (known : Known) (before : List Entry) (at : ℕ) → HasOwn h0 known.told known.client (known.entries + 1) at → entries_of (own h0 (upto known.told at) known.client) ≡ before ++ Begin known.client ∷ [] → MakesSoFar index h0 known 1 (MayBegin known.client)
+made_last index h0 known before at has are h may =
+    let t = tells h0 known.told h known.client (known.entries + 1) at may.told has in
+    let first : take 1 (drop known.entries (own h0 h known.client)) ≡ take 1 (drop known.entries (own h0 (upto known.told at) known.client)) =
+        sym (drop-take known.entries 1 (own h0 h known.client))
+        ∙ ap (drop known.entries) t.mine
+        ∙ sym (take_whole known.entries (own h0 (upto known.told at) known.client) has.own) in
+    subst (MayBegin known.client) (sym first) (last_mark known.client known.entries (own h0 (upto known.told at) known.client) before has.own are)
+  where
+    take_whole : (n : ℕ) (ps : List Placed) → length ps ≡ n + 1 → take 1 (drop n ps) ≡ drop n ps
+    take_whole n ps size = (let rest = length-drop n ps in take_all 1 (drop n ps) (omega (arith, rest, size)))
 
 -- ---- ended
 

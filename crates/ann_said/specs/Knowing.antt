@@ -1,5 +1,5 @@
--- What a client of a running index knows of the list that the run will leave, and what its lines so far are worth.
-use Rattle.std.specs.Prelude.{◌≡◌, ℕ, ◌+◌, ◌≤◌, ◌⊎◌, max, List, take, drop, length}
+-- What a client of a running index knows of the list that the run will leave, and what its lines are worth.
+use Rattle.std.specs.Prelude.{◌≡◌, ℕ, ◌+◌, ◌≤◌, ◌⊎◌, max, List, [], ◌∷◌, ◌++◌, take, drop, length}
 use Rattle.ann_types.specs.Index.{Index}
 use Rattle.ann_types.specs.Lists.{BasedList, BeginsWith, upto, length_of}
 use Rattle.ann_types.specs.Legal.{IsLegal}
@@ -10,8 +10,8 @@ use Rattle.ann_transcript.specs.declared.reply.MergeWord.TheVariants as merge
 use Rattle.ann_said.specs.Owned.{Placed, own}
 use Rattle.ann_said.specs.Said.{Line, Spot, start, behind_lines, AllStand}
 
--- whose knowledge it is; the list that its searches have seen; the list that its updates were told; how many entries it has
--- past the run's beginning; and one past the list's length where the log has stopped, or 0
+-- whose knowledge it is; the list that its searches have seen; the list that its updates were told; how many entries it
+-- has past the run's beginning; and one past the list's length where the log has stopped, or 0
 pub record Known : Type 0 where
   pub client : ℕ
   pub seen : BasedList
@@ -84,8 +84,8 @@ module _ (index : Index) (h0 : BasedList) where
     pub entries : k.entries ≤ length (own h0 h k.client)
     pub stop : (k.stop ≡ 0) ⊎ (k.stop ≡ length_of h + 1)
 
-  -- A client's lines are right of a list, and their commands have its first entries there. No later search has to cover more
-  -- than the client knows.
+  -- A client's lines are right of a list, and their commands have its first entries there. No later search has to cover
+  -- more than the client knows.
   pub record SaidUpTo (h : BasedList) (k : Known) (lines : List Line) : Type 0 where
     pub stand : AllStand index h0 h (start h0 h k.client) lines
     pub covers : ℕ
@@ -96,6 +96,11 @@ module _ (index : Index) (h0 : BasedList) where
   abbrev pub IsSaidSoFar : Known → List Line → Type 0
   IsSaidSoFar k lines = (h : BasedList) → MayLeave k h → SaidUpTo h k lines
 
-  -- So many entries are made by a command that is under way, which are right of every list that the run may leave.
+  -- a line that a client may say next, behind which it knows `new`
+  abbrev pub SaysNext : Known → Known → Line → Type 0
+  SaysNext old new l = (lines : List Line) → IsSaidSoFar old lines → IsSaidSoFar new (lines ++ l ∷ [])
+
+  -- a command that is under way has made so many entries, which are right of every list that the run may leave
   abbrev pub MakesSoFar : Known → ℕ → (List Placed → Type 0) → Type 0
-  MakesSoFar k count AreRight = (h : BasedList) → MayLeave (with_more k count) h → AreRight (take count (drop k.entries (own h0 h k.client)))
+  MakesSoFar k count AreRight =
+      (h : BasedList) → MayLeave (with_more k count) h → AreRight (take count (drop k.entries (own h0 h k.client)))

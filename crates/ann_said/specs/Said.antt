@@ -41,7 +41,7 @@ script_of p = record { name = p.name; orders = map (λ (l : Line). l.order) p.li
 
 -- ---- one client's lines, one after the other
 
--- behind some lines of a client: its entries of these lines, those to come, and how long the list of a search must be
+-- behind some lines of a client: its entries of these lines, those to come, and how long a search's list must be
 pub record Spot : Type 0 where
   pub client : ℕ
   pub earlier : List Placed

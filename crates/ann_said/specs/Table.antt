@@ -22,8 +22,8 @@ use Rattle.ann_transcript.specs.declared.reply.Reply.TheVariants as reply
 use Rattle.ann_once.specs.Once.{accepted}
 use Rattle.ann_said.specs.Owned.{Placed, entries_of, reach, StandTogether, EndAt}
 
--- where a line stands: whose it is, the client's entries of earlier lines, those of this line's command, and how long the
--- list of a search must be
+-- where a line stands: whose it is, the client's entries of earlier lines, those of this line's command, and how long a
+-- search's list must be
 pub record Turn : Type 0 where
   pub client : ℕ
   pub earlier : List Placed
@@ -42,13 +42,14 @@ MayBegin client (p ∷ q ∷ ps) = ⊥
 
 -- a search is refused by its vector's length alone, or by its own cause
 abbrev pub IsUnanswered : Index → List ℕ → SearchWord → Type 0
-IsUnanswered index vector (search_word.Dimension got want) = (got ≡ length vector) × (want ≡ index.params.d) × (got ≢ want)
+IsUnanswered index vector (search_word.Dimension got want) =
+    (got ≡ length vector) × (want ≡ index.params.d) × (got ≢ want)
 IsUnanswered index vector search_word.Disk = Unit {0}
 IsUnanswered index vector (search_word.BadSegment block) = Unit {0}
 IsUnanswered index vector search_word.Shut = Unit {0}
 
--- The entries are the first `count` inserts of a fill, made by this client. Those of each update, which has 64 of them, stand
--- side by side.
+-- The entries are the first `count` inserts of a fill, made by this client. Those of each update, which has 64 of them,
+-- stand side by side.
 pub record AreFirst (index : Index) (client seed first count : ℕ) (ps : List Placed) : Type 0 where
   pub entries : entries_of ps ≡ map (entry_of client) (inserts index.params.d seed first count)
   pub updates : (i : ℕ) → StandTogether (take 64 (drop (64 * i) ps))
@@ -88,7 +89,8 @@ module _ (index : Index) (h0 h : BasedList) where
     pub refused : judge_all index.params (upto h at) t.client changes ≡ Some (place, why)
 
   abbrev pub AreRefused : Turn → List Change → UpdateWord → Type 0
-  AreRefused t changes (update.Dimension place got want at) = AreJudged t changes place (Dimension got want) at
+  AreRefused t changes (update.Dimension place got want at) =
+      AreJudged t changes place (Dimension got want) at
   AreRefused t changes (update.Full place at) = AreJudged t changes place Full at
   AreRefused t changes (update.Present place tag at) = AreJudged t changes place (Present tag) at
   AreRefused t changes (update.Absent place tag at) = AreJudged t changes place (Absent tag) at
@@ -153,8 +155,10 @@ module _ (index : Index) (h0 h : BasedList) where
 
   -- the reply to a command is right where it stands
   abbrev pub Stands : Turn → Order → Reply → Type 0
-  Stands t (Apply changes batch) (reply.Accepted kind tag count at) = AreAccepted h0 h t changes at × (reply.Accepted kind tag count at ≡ accepted changes batch at)
-  Stands t (Apply changes batch) (reply.Update refused of_batch) = AreRefused t changes refused × (of_batch ≡ batch)
+  Stands t (Apply changes batch) (reply.Accepted kind tag count at) =
+      AreAccepted h0 h t changes at × (reply.Accepted kind tag count at ≡ accepted changes batch at)
+  Stands t (Apply changes batch) (reply.Update refused of_batch) =
+      AreRefused t changes refused × (of_batch ≡ batch)
   Stands t (Find k l vector) (reply.Found at hits) = IsFound t k l vector at hits
   Stands t (Find k l vector) (reply.Search refused) = IsUnanswered index vector refused × (t.own ≡ [])
   Stands t (Fill seed count first) (reply.Filled done at) = AreFilled t seed first count at × (done ≡ count)

@@ -17,5 +17,5 @@ returns-clause-end c = filled_end
 pub returns-clause-learned : goal.returns-clause-learned
 returns-clause-learned c index h0 old new seed first done more makes = made_learned index h0 old new done (λ client ps. AreFirst index client seed first done ps) more makes
 
-pub returns-clause-learned_end : goal.returns-clause-learned_end
-returns-clause-learned_end c index h0 old new done at more makes = made_learned index h0 old new done (λ client ps. reach ps ≡ at) more makes
+pub returns-clause-end_learned : goal.returns-clause-end_learned
+returns-clause-end_learned c index h0 old new done at more makes = made_learned index h0 old new done (λ client ps. reach ps ≡ at) more makes
