@@ -3,13 +3,13 @@ use Rattle.std.proofs.Common.{◌≡◌, ℕ, suc, ◌+◌, ◌<◌, ◌≤◌, 
 use Rattle.std.proofs.lemmas.List.{drop_all}
 use Rattle.std.proofs.lemmas.List.Sums.{fold_push}
 use Rattle.ann_types.specs.Index.{Index}
-use Rattle.ann_types.specs.Lists.{BasedList, BeginsWith, length_of}
+use Rattle.ann_types.specs.Lists.{BasedList, length_of}
 use Rattle.ann_said.specs.Owned.{Placed, own}
 use Rattle.ann_said.specs.Seen.{line_seen}
 use Rattle.ann_said.specs.Table.{Stands}
 use Rattle.ann_said.specs.Said.{Line, Spot, start, turn_at, behind_line, behind_lines, Part, AllStand, SaysAll, AllSay}
 use Rattle.ann_said.specs.Knowing.{Known, known_first, with_more, Learns, spot, MayLeave, SaidUpTo, IsSaidSoFar, MakesSoFar}
-use Rattle.ann_said.proofs.Prefixes.{begins_self, begins_trans, begins_length}
+use Rattle.ann_said.proofs.Prefixes.{begins_trans, begins_length}
 
 -- ---- one more line
 
@@ -91,8 +91,7 @@ say_from : (index : Index) (h0 h : BasedList) (n : ℕ) (parts : List Part) → 
 say_from index h0 h n [] each = tt
 say_from index h0 h n (p ∷ ps) each =
     let here : n + 0 ≡ n = omega arith in
-    let next : (i : ℕ) → n + suc i ≡ n + 1 + i = λ i. omega arith in
-    (
+    let next : (i : ℕ) → n + suc i ≡ n + 1 + i = λ i. omega arith in (
       subst (λ (m : ℕ). SaysAll index h0 h m p.lines) here (each 0 p (omega arith)),
       say_from index h0 h (n + 1) ps (λ i q lt. subst (λ (m : ℕ). SaysAll index h0 h m (get_or ps i q).lines) (next i) (each (suc i) q (omega (arith, lt)))),
     )

@@ -1,6 +1,6 @@
 -- What the line of a fill is worth.
-use Rattle.std.proofs.Common.{◌≡◌, ℕ, zero, suc, ◌+◌, ◌-◌, ◌*◌, ◌<◌, ◌≤◌, min, max, Bool, true, false, cond, List, [], ◌∷◌, ◌++◌, Some, refl, sym, ap, ◌∙◌, subst, arith, map, filter, take, drop, length, inl, inr, take-add, drop-drop, length-append, length-drop}
-use Rattle.std.proofs.lemmas.List.{take_all, take_at, drop_at, take-take, take-append-le, drop-append-le, drop-take, drop_all, length-take, length-take-le, length-map, map-append, take_min}
+use Rattle.std.proofs.Common.{◌≡◌, ℕ, zero, suc, ◌+◌, ◌*◌, ◌<◌, ◌≤◌, max, Bool, true, false, cond, List, [], ◌∷◌, ◌++◌, Some, refl, sym, ap, ◌∙◌, subst, arith, map, filter, take, drop, length, inl, inr, take-add, drop-drop, length-append, length-drop}
+use Rattle.std.proofs.lemmas.List.{take_all, drop_at, take-take, take-append-le, drop-append-le, drop-take, drop_all, length-take, length-take-le, length-map, map-append, take_min}
 use Rattle.std.proofs.lemmas.Bool.{cases_lt}
 use Rattle.ann_types.specs.Index.{Index}
 use Rattle.ann_types.specs.Lists.{BasedList, upto, with_entries, length_of}
@@ -17,11 +17,11 @@ use Rattle.ann_transcript.specs.declared.reply.Reply.TheVariants.{Filled, Cut}
 use Rattle.ann_once.specs.Once.{word_of}
 use Rattle.ann_said.specs.Owned.{Placed, placed_from, entries_of, own, past, reach, StandTogether}
 use Rattle.ann_said.specs.Seen.{refusal_seen}
-use Rattle.ann_said.specs.Table.{Turn, behind_first, AreFirst, AreJudged, AreRefused, AreFilled, AreCut}
+use Rattle.ann_said.specs.Table.{Turn, behind_first, AreFirst, AreRefused, AreFilled, AreCut}
 use Rattle.ann_said.specs.Said.{Line, line, turn_at}
 use Rattle.ann_said.specs.Knowing.{Known, with_more, HasOwn, HasOwnCause, spot, MayLeave, SaidUpTo, IsSaidSoFar, MakesSoFar}
 use Rattle.ann_said.proofs.Prefixes.{begins_length}
-use Rattle.ann_said.proofs.Owning.{is_of, length_placed, reach-append, reach_placed}
+use Rattle.ann_said.proofs.Owning.{is_of, length_placed, reach-append}
 use Rattle.ann_said.proofs.Adding.{said_push}
 use Rattle.ann_said.proofs.Replying.{Ends, tells, fewer, changes_end, next_reach, judged_refused, judged_seen, caused_refused, caused_seen, stopped_at}
 
@@ -65,21 +65,21 @@ together_more ps qs updates size small new old i = elim (cases_lt i updates) [
   | inl before ↦ (
       let rest = length-drop (64 * i) ps in
       let same : take 64 (drop (64 * i) (ps ++ qs)) ≡ take 64 (drop (64 * i) ps) =
-          ap (take 64) (drop-append-le (64 * i) ps qs (omega (arith, size, before)))
-          ∙ take-append-le 64 (drop (64 * i) ps) qs (omega (arith, rest, size, before)) in
+      ap (take 64) (drop-append-le (64 * i) ps qs (omega (arith, size, before)))
+      ∙ take-append-le 64 (drop (64 * i) ps) qs (omega (arith, rest, size, before)) in
       subst StandTogether (sym same) (old i)
-  )
+      )
   | inr behind ↦ elim (cases_lt updates i) [
-      | inl past ↦ (
-          let both = length-append ps qs in
-          let none : take 64 (drop (64 * i) (ps ++ qs)) ≡ [] = ap (take 64) (drop_all (64 * i) (ps ++ qs) (omega (arith, both, size, small, past))) in
-          subst StandTogether (sym none) (record { first = 0; are = refl })
-      )
-      | inr here ↦ (
-          let at : length ps ≡ 64 * i = omega (arith, size, behind, here) in
-          let same : take 64 (drop (64 * i) (ps ++ qs)) ≡ qs = ap (take 64) (drop_at ps qs (64 * i) at) ∙ take_all 64 qs small in
-          subst StandTogether (sym same) new
-      )
+    | inl past ↦ (
+        let both = length-append ps qs in
+        let none : take 64 (drop (64 * i) (ps ++ qs)) ≡ [] = ap (take 64) (drop_all (64 * i) (ps ++ qs) (omega (arith, both, size, small, past))) in
+        subst StandTogether (sym none) (record { first = 0; are = refl })
+        )
+    | inr here ↦ (
+        let at : length ps ≡ 64 * i = omega (arith, size, behind, here) in
+        let same : take 64 (drop (64 * i) (ps ++ qs)) ≡ qs = ap (take 64) (drop_at ps qs (64 * i) at) ∙ take_all 64 qs small in
+        subst StandTogether (sym same) new
+        )
   ]
 ]
 

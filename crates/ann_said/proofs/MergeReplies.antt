@@ -1,9 +1,9 @@
 -- What the line of a merge is worth.
-use Rattle.std.proofs.Common.{◌≡◌, ℕ, zero, suc, ◌+◌, ◌-◌, ◌≤◌, max, Bool, true, false, List, [], ◌∷◌, ◌++◌, Option, Some, None, cond, refl, sym, ap, ◌∙◌, subst, arith, filter, take, drop, length, take-add, drop-drop, eq-eqb, length-drop}
+use Rattle.std.proofs.Common.{◌≡◌, ℕ, zero, suc, ◌+◌, ◌≤◌, false, List, [], ◌∷◌, ◌++◌, Some, None, refl, sym, ap, ◌∙◌, subst, arith, take, drop, length, take-add, drop-drop, length-drop}
 use Rattle.std.proofs.lemmas.List.{length-take-le, drop-take, take_all, length-map}
 use Rattle.ann_types.specs.Index.{Index}
-use Rattle.ann_types.specs.Lists.{BasedList, upto, with_entry, length_of}
-use Rattle.ann_types.specs.Fold.{Begun, State, fold_of}
+use Rattle.ann_types.specs.Lists.{BasedList, upto, with_entry}
+use Rattle.ann_types.specs.Fold.{Begun, fold_of}
 use Rattle.ann_types.specs.Legal.{has_work}
 use Rattle.ann_types.specs.declared.entry.Entry.{Entry}
 use Rattle.ann_types.specs.declared.entry.Entry.TheVariants.{Begin, End}
@@ -11,12 +11,12 @@ use Rattle.ann_script.specs.Order as order
 use Rattle.ann_transcript.specs.declared.reply.MergeWord.{MergeWord}
 use Rattle.ann_transcript.specs.declared.reply.MergeWord.TheVariants.{Merged, Nothing, Running, Shut, Disk, BadSegment, LogFault, Stopped, Memory, MemoryLogged}
 use Rattle.ann_transcript.specs.declared.reply.Reply.TheVariants.{Merge}
-use Rattle.ann_said.specs.Owned.{Placed, placed_from, by_of, own, entries_of, reach, EndAt}
+use Rattle.ann_said.specs.Owned.{Placed, own, entries_of}
 use Rattle.ann_said.specs.Seen.{merge_seen}
-use Rattle.ann_said.specs.Table.{Turn, MayBegin, IsAbout, IsMerged, IsIdle, IsRunning, IsMergeReply}
+use Rattle.ann_said.specs.Table.{Turn, MayBegin, IsMerged, IsIdle, IsRunning, IsMergeReply}
 use Rattle.ann_said.specs.Said.{Line, line, turn_at}
 use Rattle.ann_said.specs.Knowing.{Known, with_more, HasOwn, MergeHasOwnCause, spot, MayLeave, IsSaidSoFar, MakesSoFar}
-use Rattle.ann_said.proofs.Owning.{is_of, reach-append, own_mark}
+use Rattle.ann_said.proofs.Owning.{own_mark}
 use Rattle.ann_said.proofs.Adding.{said_push}
 use Rattle.ann_said.proofs.Replying.{tells, idle, said_idle, fewer, ends, stopped_at, next_reach}
 
@@ -45,9 +45,9 @@ pub made_last : (index : Index) (h0 : BasedList) (known : Known) (before : List 
 made_last index h0 known before at has are h may =
     let t = tells h0 known.told h known.client (known.entries + 1) at may.told has in
     let first : take 1 (drop known.entries (own h0 h known.client)) ≡ take 1 (drop known.entries (own h0 (upto known.told at) known.client)) =
-        sym (drop-take known.entries 1 (own h0 h known.client))
-        ∙ ap (drop known.entries) t.mine
-        ∙ sym (take_whole known.entries (own h0 (upto known.told at) known.client) has.own) in
+    sym (drop-take known.entries 1 (own h0 h known.client))
+    ∙ ap (drop known.entries) t.mine
+    ∙ sym (take_whole known.entries (own h0 (upto known.told at) known.client) has.own) in
     subst (MayBegin known.client) (sym first) (last_mark known.client known.entries (own h0 (upto known.told at) known.client) before has.own are)
   where
     take_whole : (n : ℕ) (ps : List Placed) → length ps ≡ n + 1 → take 1 (drop n ps) ≡ drop n ps
@@ -65,7 +65,7 @@ said_merged index h0 before known ls count segment at makes has is so h may =
     let e = ends h0 known.told h before known.client (known.entries + count) es at (λ n. own_mark known.client n (End known.client segment) refl) may.told has' is in
     let t = tells h0 known.told h known.client (known.entries + (count + 1)) at may.told has in
     let parts : take (count + 1) (drop known.entries all) ≡ take count (drop known.entries all) ++ take 1 (drop (known.entries + count) all) =
-        take-add count 1 (drop known.entries all) ∙ ap (λ (ps : List Placed). take count (drop known.entries all) ++ take 1 ps) (drop-drop count known.entries all) in
+    take-add count 1 (drop known.entries all) ∙ ap (λ (ps : List Placed). take count (drop known.entries all) ++ take 1 ps) (drop-drop count known.entries all) in
     let fewer' : MayLeave index h0 (with_more known count) h = (let enough = may.entries in record { legal = may.legal; begins = may.begins; seen = may.seen; told = may.told; entries = omega (arith, enough); stop = may.stop }) in
     let right : IsMerged h0 h (turn_at (spot h0 h known s.covers) (count + 1)) segment at = record {
       between = t.between;

@@ -1,16 +1,16 @@
 -- Whose entries a longer list has.
-use Rattle.std.proofs.Common.{◌≡◌, ℕ, zero, suc, ◌+◌, ◌-◌, ◌≤◌, max, Bool, true, false, cond, eqb, List, [], ◌∷◌, ◌++◌, refl, sym, ap, ◌∙◌, subst, arith, filter, map, take, drop, length, append_assoc, append-nil, length-append, length-drop, eq-eqb}
-use Rattle.std.proofs.lemmas.List.{take-append-drop, take_at, drop_at, drop-append-le, length-map}
+use Rattle.std.proofs.Common.{◌≡◌, ℕ, suc, ◌+◌, ◌≤◌, max, Bool, true, false, cond, eqb, List, [], ◌∷◌, ◌++◌, refl, sym, ap, ◌∙◌, arith, filter, map, drop, length, length-drop, eq-eqb}
+use Rattle.std.proofs.lemmas.List.{drop-append-le}
 use Rattle.std.proofs.lemmas.List.Elements.{filter-append}
 use mathlib.Core.List.{IsPrefix}
-use Rattle.ann_types.specs.Lists.{ListBase, BasedList, BeginsWith, length_of, upto, with_entries}
+use Rattle.ann_types.specs.Lists.{ListBase, BasedList, BeginsWith, length_of, with_entries}
 use Rattle.ann_types.specs.Judge.{entry_of}
 use Rattle.ann_types.specs.declared.change.Change.{Change}
 use Rattle.ann_types.specs.declared.change.Change.TheVariants.{Insert, Delete, Replace}
 use Rattle.ann_types.specs.declared.entry.Entry.{Entry}
 use Rattle.ann_types.proofs.Folds.{begins_then}
 use Rattle.ann_said.specs.Owned.{Placed, placed_from, by_of, past, own, reach}
-use Rattle.ann_said.proofs.Prefixes.{begins_length, begins_entries}
+use Rattle.ann_said.proofs.Prefixes.{begins_entries}
 
 -- ---- entries side by side
 

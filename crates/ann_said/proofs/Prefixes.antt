@@ -1,9 +1,8 @@
 -- Beginnings of lists of entries.
-use Rattle.std.proofs.Common.{◌≡◌, ℕ, ◌+◌, ◌-◌, ◌≤◌, List, [], ◌∷◌, ◌++◌, refl, sym, ap, ◌∙◌, subst, arith, take, drop, length, append_assoc, append-nil, length-append}
+use Rattle.std.proofs.Common.{◌≡◌, ℕ, ◌-◌, ◌≤◌, List, [], ◌++◌, refl, sym, ap, ◌∙◌, arith, take, drop, length, append_assoc, append-nil, length-append}
 use Rattle.std.proofs.lemmas.List.{take-append-le, take_all, take_at, take-append-drop, length-take-le}
 use Rattle.ann_types.specs.Lists.{ListBase, BasedList, BeginsWith, length_of, upto, with_entries}
 use Rattle.ann_types.specs.declared.entry.Entry.{Entry}
-use Rattle.ann_types.proofs.Folds.{begins_then, upto_then, entries_then}
 
 abbrev pub on : ListBase → List Entry → BasedList
 on base entries = record { base = base; entries = entries }
@@ -57,7 +56,7 @@ length_upto h n from to =
 pub begins_shorter : (g f : BasedList) (es : List Entry) → BeginsWith (with_entries g es) f → length f.entries ≤ length g.entries → BeginsWith g f
 begins_shorter g f es b short =
     let front : take (length f.entries) g.entries ≡ f.entries =
-        sym (take-append-le (length f.entries) g.entries es short)
-        ∙ ap (take (length f.entries)) (sym b.entries.1)
-        ∙ take_at f.entries b.entries.0 (length f.entries) refl in
+    sym (take-append-le (length f.entries) g.entries es short)
+    ∙ ap (take (length f.entries)) (sym b.entries.1)
+    ∙ take_at f.entries b.entries.0 (length f.entries) refl in
     record { base = b.base; entries = (drop (length f.entries) g.entries, ap (λ (w : List Entry). w ++ drop (length f.entries) g.entries) (sym front) ∙ take-append-drop (length f.entries) g.entries) }

@@ -1,5 +1,5 @@
 -- What each reply of a client is worth, from what the client knows.
-use Rattle.std.proofs.Common.{◌≡◌, ◌≢◌, ℕ, ◌+◌, ◌-◌, ◌≤◌, max, Bool, true, false, List, [], ◌∷◌, ◌++◌, Option, Some, None, refl, sym, ap, ◌∙◌, subst, arith, map, filter, take, drop, length, inl, inr, length-append, length-drop, append_assoc, take-add, not}
+use Rattle.std.proofs.Common.{◌≡◌, ℕ, ◌+◌, ◌≤◌, max, Bool, true, false, List, [], ◌∷◌, ◌++◌, Some, refl, sym, ap, ◌∙◌, subst, arith, map, filter, take, drop, length, inl, inr, length-append, length-drop, append_assoc, take-add, not}
 use Rattle.std.proofs.lemmas.List.{take_at, drop_at, length-take-le, length-map}
 use Rattle.std.proofs.lemmas.List.Filters.{length-filter_both}
 use Rattle.ann_types.specs.Index.{Index}
@@ -9,16 +9,15 @@ use Rattle.ann_types.specs.Judge.{Refusal, Dimension, Full, Present, Absent, ent
 use Rattle.ann_types.specs.Answer as found
 use Rattle.ann_types.specs.declared.change.Change.{Change}
 use Rattle.ann_types.specs.declared.entry.Entry.{Entry}
-use Rattle.ann_types.specs.declared.hit.Hit.{Hit}
 use Rattle.ann_script.specs.Order.{Order, Apply, Find}
 use Rattle.ann_transcript.specs.declared.reply.UpdateWord.{UpdateWord}
 use Rattle.ann_transcript.specs.declared.reply.UpdateWord.TheVariants.{Dimension as Dimension', Full as Full', Present as Present', Absent as Absent', LogFault, Stopped, Memory, MemoryLogged}
 use Rattle.ann_transcript.specs.declared.reply.Reply.{Reply}
-use Rattle.ann_transcript.specs.declared.reply.Reply.TheVariants.{Update, Found, Search}
+use Rattle.ann_transcript.specs.declared.reply.Reply.TheVariants.{Update, Found}
 use Rattle.ann_once.specs.Once.{accepted, word_of}
-use Rattle.ann_said.specs.Owned.{Placed, placed_from, own, reach, EndAt}
+use Rattle.ann_said.specs.Owned.{Placed, placed_from, own, reach}
 use Rattle.ann_said.specs.Seen.{refusal_seen, line_seen}
-use Rattle.ann_said.specs.Table.{Turn, IsBetween, IsAbout, AreAccepted, AreJudged, AreRefused, IsFound, Stands}
+use Rattle.ann_said.specs.Table.{Turn, IsBetween, AreAccepted, AreJudged, AreRefused, IsFound, Stands}
 use Rattle.ann_said.specs.Said.{Line, line, Spot, start, turn_at, behind_line, behind_lines}
 use Rattle.ann_said.specs.Knowing.{Known, with_more, HasOwn, HasOwnCause, spot, MayLeave, SaidUpTo, IsSaidSoFar}
 use Rattle.ann_said.proofs.Prefixes.{begins_trans, begins_upto, begins_length, begins_entries, begins_shorter, upto_begins, upto_own, length_upto}
@@ -169,7 +168,7 @@ ends h0 t h before client count es at theirs more has is =
     let counted : length (own h0 before client) ≡ count = (let all = sym (ap length mine) ∙ size in omega (arith, parts, last, all)) in
     let front = own_begins h0 (upto t at) h client has.begins (begins_trans h t (upto t at) more (begins_upto t at)) in
     let here : own h0 h client ≡ own h0 before client ++ (placed_from (length_of before) es ++ front.0) =
-        sym front.1 ∙ ap (λ (g : BasedList). own h0 g client ++ front.0) is ∙ ap (λ ps. ps ++ front.0) mine ∙ append_assoc (own h0 before client) (placed_from (length_of before) es) front.0 in
+    sym front.1 ∙ ap (λ (g : BasedList). own h0 g client ++ front.0) is ∙ ap (λ ps. ps ++ front.0) mine ∙ append_assoc (own h0 before client) (placed_from (length_of before) es) front.0 in
     let end = told.size in
     let long = ap length_of is in
     record {

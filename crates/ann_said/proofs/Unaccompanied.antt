@@ -1,34 +1,32 @@
 -- What one client says alone, command by command.
-use Rattle.std.proofs.Common.{◌≡◌, ◌≢◌, ℕ, ◌+◌, ◌<◌, ◌≤◌, Bool, true, false, cond, eqb, not, List, [], ◌∷◌, ◌++◌, Option, Some, None, refl, sym, ap, ◌∙◌, subst, arith, map, filter, flat_map, take, drop, length, fold, inl, append_assoc, append-nil, length-append, eqb-true}
-use Rattle.std.specs.Prelude.{All}
+use Rattle.std.proofs.Common.{◌≡◌, ℕ, ◌+◌, ◌<◌, ◌≤◌, Bool, true, false, cond, eqb, List, [], ◌∷◌, ◌++◌, Option, Some, None, refl, sym, ap, ◌∙◌, subst, arith, map, filter, length, inl, append_assoc, append-nil, length-append, eqb-true}
 use Rattle.std.specs.List.{AllByRecursion}
 use Rattle.std.proofs.lemmas.Bool.{eqb-false, false≢true}
 use Rattle.std.proofs.lemmas.List.{length-map}
 use Rattle.std.proofs.lemmas.List.Elements.{All-weaker, All-same, filter_passes, All-nil}
 use Rattle.ann_types.specs.Index.{Index}
-use Rattle.ann_types.specs.Lists.{ListBase, BasedList, BeginsWith, empty_base, empty_list, upto, with_entries, length_of, live_of}
+use Rattle.ann_types.specs.Lists.{ListBase, BasedList, BeginsWith, empty_base, empty_list, with_entries, length_of, live_of}
 use Rattle.ann_types.specs.Fold.{fold_of}
-use Rattle.ann_types.specs.Legal.{pid_end, is_legal, IsLegal}
+use Rattle.ann_types.specs.Legal.{is_legal, IsLegal}
 use Rattle.ann_types.specs.Answer.{hits}
 use Rattle.ann_types.specs.Judge.{Refusal, entry_of, judge_all}
 use Rattle.ann_types.specs.declared.change.Change.{Change}
 use Rattle.ann_types.specs.declared.entry.Entry.{Entry}
 use Rattle.ann_types.proofs.Judged.{accepted_is_legal}
-use Rattle.ann_script.specs.Allowed.{IsOrderOf, IsClientOf, IsScriptOf}
+use Rattle.ann_script.specs.Allowed.{IsOrderOf, IsScriptOf}
 use Rattle.ann_script.specs.Order.{Order, Apply, Find, Merge, Fill}
 use Rattle.ann_script.specs.Script.{Client}
 use Rattle.ann_script.specs.declared.verbs.Verbs.TheVariants.{Once}
 use Rattle.ann_transcript.specs.Transcript.{line_text, last_text}
 use Rattle.ann_transcript.specs.declared.reply.SearchWord.TheVariants.{Dimension}
-use Rattle.ann_transcript.specs.declared.reply.Reply.{Reply}
 use Rattle.ann_transcript.specs.declared.reply.Reply.TheVariants.{Update, Found, Search}
 use Rattle.ann_once.specs.Once.{accepted, word_of, update_reply, search_reply, reply_to, updated, list_after, lines_from, once_text}
 use Rattle.ann_once.proofs.Sessions.{session_base}
 use Rattle.ann_said.specs.Owned.{Placed, placed_from, by_of, past, own}
-use Rattle.ann_said.specs.Said.{Line, line, Part, lines_text, part_text, script_of, SaysAll, Said}
+use Rattle.ann_said.specs.Said.{Line, line, lines_text, Said}
 use Rattle.ann_said.specs.Knowing.{Known, Learns, HasOwn, MayLeave, IsSaidSoFar}
 use Rattle.ann_said.specs.Alone.{list_behind, list_of}
-use Rattle.ann_said.proofs.Prefixes.{begins_self, begins_trans, upto_all}
+use Rattle.ann_said.proofs.Prefixes.{begins_self, upto_all}
 use Rattle.ann_said.proofs.Owning.{is_of, length_placed, placed-append, own_then, own_changes}
 use Rattle.ann_said.proofs.Adding.{said_first, said_learned, said_whole}
 use Rattle.ann_said.proofs.Replying.{said_found, said_judged, said_accepted, said_idle}

@@ -1,18 +1,17 @@
 -- Worked examples: runs with their transcripts, and replies that are none.
-use Rattle.std.proofs.Common.{◌≡◌, ℕ, zero, suc, ◌+◌, ◌*◌, ◌<◌, ◌≤◌, false, List, [], ◌∷◌, ◌++◌, Some, None, refl, sym, ap, ◌∙◌, subst, arith, take, drop, length, lit≤}
-use Rattle.std.specs.Prelude.{All, codes}
+use Rattle.std.proofs.Common.{◌≡◌, ℕ, zero, suc, ◌*◌, ◌<◌, false, List, [], ◌∷◌, refl, sym, ap, subst, arith, take, drop, lit≤}
+use Rattle.std.specs.Prelude.{codes}
 use Rattle.std.specs.Fmt.{digits}
 use Rattle.std.proofs.lemmas.List.{drop_all}
 use Rattle.std.proofs.lemmas.List.Elements.{All-cons, All-nil}
 use Rattle.ann_types.specs.Put.{put}
 use Rattle.ann_types.specs.Answer.{hits}
 use Rattle.ann_types.specs.Lists.{BasedList, empty_base, empty_list}
-use Rattle.ann_types.specs.Legal.{is_legal}
 use Rattle.ann_types.specs.declared.change.Change.TheVariants.{Insert}
 use Rattle.ann_types.specs.declared.entry.Entry.{Entry}
 use Rattle.ann_types.specs.declared.entry.Entry.TheVariants.{Insert as InsertEntry}
 use Rattle.ann_types.specs.declared.hit.Hit.{Hit}
-use Rattle.ann_types.proofs.WorkedIndexes.{plane, plane_index, line as line_params, line_index, identity}
+use Rattle.ann_types.proofs.WorkedIndexes.{plane, plane_index, line as line_params, line_index}
 use Rattle.ann_script.specs.Order.{Order, Apply, Find, Merge, Fill}
 use Rattle.ann_script.specs.Script.{Client}
 use Rattle.ann_transcript.specs.declared.reply.Kind.TheVariants as kind

@@ -1,5 +1,5 @@
 -- Which replies are right: each by its kind is what a prefix of the list gives.
-use Rattle.std.specs.Prelude.{◌≡◌, ◌≢◌, ℕ, ◌+◌, ◌*◌, ◌<◌, ◌≤◌, Bool, false, List, [], ◌∷◌, ◌++◌, Option, Some, None, map, take, drop, length}
+use Rattle.std.specs.Prelude.{◌≡◌, ◌≢◌, ℕ, ◌*◌, ◌<◌, ◌≤◌, false, List, [], ◌∷◌, ◌++◌, Some, None, map, take, drop, length}
 use Rattle.ann_types.specs.Index.{Index}
 use Rattle.ann_types.specs.Lists.{BasedList, upto, length_of}
 use Rattle.ann_types.specs.Fold.{Begun, fold_of}

@@ -59,7 +59,7 @@ pub fn cutting()
         → 64 * updates < count
         → HasOwn h0 known.told known.client (known.entries + 64 * updates) at
         → judge_all index.params (upto known.told at) known.client
-            (batch_of index.params.d seed count first updates) ≡ Some (place, why)
+        (batch_of index.params.d seed count first updates) ≡ Some (place, why)
         → MakesSoFar index h0 known (64 * updates) (AreFirst index known.client seed first (64 * updates))
         → SaysNext index h0 known (with_more known (64 * updates))
         (line (Fill seed count first) (Cut (64 * updates) (word_of place why at)) (64 * updates)) }

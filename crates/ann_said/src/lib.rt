@@ -16,6 +16,8 @@ mod merges;
 mod once;
 
 pub use fills::{cutting, filled, filling};
-pub use lines::{accepting, closing, failing, finding, judging, learning, logging, starting, stopping};
+pub use lines::{
+    accepting, closing, failing, finding, judging, learning, logging, starting, stopping,
+};
 pub use merges::{giving_back, idling, merged, merging};
 pub use once::alone;

@@ -35,7 +35,7 @@ pub fn finding()
     ensures { (index : Index) (h0 : BasedList) (known : Known) (k l : ℕ) (vector : List ℕ)
         → length_of known.told ≤ length_of known.seen
         → SaysNext index h0 known known (line (Find k l vector)
-            (Found (length_of known.seen) (hits index (fold_of index known.seen) k l vector)) 0) }
+        (Found (length_of known.seen) (hits index (fold_of index known.seen) k l vector)) 0) }
 {}
 
 /// An update is refused by a prefix of the list that its client was told.
