@@ -83,5 +83,6 @@ pub fn cutting()
         → MakesSoFar index h0 known (64 * updates) (AreFirst index known.client seed first (64 * updates))
         → MakesSoFar index h0 known (64 * updates) (λ ps. reach ps ≡ at)
         → SaysNext index h0 known (with_more known (64 * updates + length batch))
-        (line (Fill seed count first) (Cut (64 * updates) (MemoryLogged last)) (64 * updates + length batch)) }
+        (line (Fill seed count first) (Cut (64 * updates) (MemoryLogged last))
+        (64 * updates + length batch)) }
 {}
