@@ -166,15 +166,19 @@ static Log open_log() {
     return log;
 }
 
-// The kilobytes of the process that are in memory now.
-static long resident() {
-    long kilobytes = 0;
+// What the system tells of the process under these words.
+static long status_of(const char *words) {
+    long told = 0;
     FILE *status = fopen("/proc/self/status", "r");
     char line[256];
-    while (status && fgets(line, sizeof line, status)) sscanf(line, "VmRSS: %ld", &kilobytes);
+    while (status && fgets(line, sizeof line, status)) sscanf(line, words, &told);
     if (status) fclose(status);
-    return kilobytes;
+    return told;
 }
+
+// The kilobytes of the process that are in memory now, and that were at most.
+static long resident() { return status_of("VmRSS: %ld"); }
+[[maybe_unused]] static long greatest() { return status_of("VmHWM: %ld"); }
 
 // ---- making one
 

@@ -2,7 +2,8 @@
 // the files are read and cut into entries, the tags are judged by a hash map, and each point is put into the graph in memory,
 // which is frozen where it is full.
 //     reopening make N D R L A B FREEZE    writes ann.log with N inserts of D components, and an empty ann2.log
-//     reopening open                       opens it: `opened`, nanoseconds of the processor, length, live tags and 0; `held KILOBYTES`
+//     reopening open                       opens it: `opened`, nanoseconds of the processor, length, live tags and 0; then the
+//                                          memory, `most KILOBYTES` and `held KILOBYTES`
 #include "log.h"
 #include "rules.h"
 #include <memory>
@@ -93,7 +94,7 @@ static void time_open() {
     View view = replay(log.preamble.params, log.entries, judged.gone);
     log.entries = {}, judged.gone = {};
     busy = now(CLOCK_THREAD_CPUTIME_ID) - busy;
-    fprintf(stderr, "opened %lu %lu %zu 0\nheld %ld\n", busy, view.at, judged.tags.size(), resident());
+    fprintf(stderr, "opened %lu %lu %zu 0\nmost %ld\nheld %ld\n", busy, view.at, judged.tags.size(), greatest(), resident());
 }
 
 int main(int count, char **words) {

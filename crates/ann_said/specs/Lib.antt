@@ -1,0 +1,6 @@
+pub mod Owned
+pub mod Seen
+pub mod Table
+pub mod Said
+pub mod Knowing
+pub mod Alone
