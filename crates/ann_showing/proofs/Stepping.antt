@@ -1,5 +1,5 @@
 -- One operation that waits, shown.
-use Rattle.std.proofs.Common.{◌≡◌, ℕ, Bool, true, false, List, [], ◌∷◌, refl, sym, ap, ap₂, subst, ◌∙◌, drop}
+use Rattle.std.proofs.Common.{◌≡◌, ℕ, Bool, true, false, List, [], ◌∷◌, ◌++◌, refl, sym, ap, ap₂, subst, ◌∙◌, drop, append_assoc}
 use Rattle.std.specs.Prelude.{IsTrue, Some}
 use Rattle.std.proofs.lemmas.Bool.{and_parts}
 use Rattle.ann_types.specs.Fold.{fold_of}
@@ -24,7 +24,7 @@ use Rattle.ann_view.specs.View.{IndexView, index_of}
 use Rattle.ann_view.specs.declared.op.Op.{Op}
 use Rattle.ann_view.specs.declared.op.Op.TheVariants as op
 use Rattle.ann_account.specs.Account.{AccountView}
-use Rattle.ann_showing.specs.Showing.{Follows, IsSameJournal}
+use Rattle.ann_showing.specs.Showing.{Follows, HasShown}
 
 -- ---- the first of some steps
 
@@ -154,10 +154,22 @@ module _ {F S : Type 0} (D : Ghosts F) (bytes : S → List ℕ) (sound : Bool) (
       (λ t. subst (λ ws. Bring bytes index shown ws f.leads.entries) waits (f.brings t))
       f.leads.whole)
 
--- ---- one step after others
+-- ---- what is shown
 
-pub same_then : {F S : Type 0} (a b c : JournalView F S) → IsSameJournal a b → IsSameJournal b c → IsSameJournal a c
-same_then a b c first second = record {
+pub shown_one : {F S : Type 0} (a b : JournalView F S) (o : Op S) (rest : List (Op S)) → a.account.waiting ≡ o ∷ rest → b.log ≡ a.log → b.account ≡ record a.account { waiting = drop 1 a.account.waiting } → HasShown a b
+shown_one a b o rest waits log account =
+    let left : b.account.waiting ≡ drop 1 a.account.waiting = ap (λ (x : AccountView _). x.waiting) account in
+    record {
+      log = log;
+      account = account ∙ ap (λ ws. record a.account { waiting = ws }) (sym left);
+      shown = o ∷ [];
+      rest = waits ∙ ap (λ ws. o ∷ ws) (sym (left ∙ ap (drop 1) waits));
+    }
+
+pub shown_then : {F S : Type 0} (a b c : JournalView F S) → HasShown a b → HasShown b c → HasShown a c
+shown_then a b c first second = record {
   log = second.log ∙ first.log;
   account = second.account ∙ ap (λ (x : AccountView _). record x { waiting = c.account.waiting }) first.account;
+  shown = first.shown ++ second.shown;
+  rest = first.rest ∙ ap (λ ws. first.shown ++ ws) second.rest ∙ sym (append_assoc first.shown second.shown c.account.waiting);
 }

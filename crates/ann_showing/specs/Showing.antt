@@ -1,5 +1,5 @@
 -- A view that follows the journal of its index: what is logged and not shown yet waits.
-use Rattle.std.specs.Prelude.{◌≡◌, ℕ, Bool, false, List, IsTrue}
+use Rattle.std.specs.Prelude.{◌≡◌, ◌++◌, ℕ, Bool, false, List, IsTrue}
 use Rattle.ann_types.specs.Lists.{BasedList}
 use Rattle.ann_account.specs.Steps.{Lead, Bring}
 use Rattle.ann_disk.specs.declared.file.LogFile.{Ghosts}
@@ -9,6 +9,7 @@ use Rattle.ann_journal.specs.Journal.{JournalView, IsJournalOf, index_in}
 use Rattle.ann_view.specs.Holding.{HoldsGraph}
 use Rattle.ann_view.specs.Stands.{StandsFor, lti_of}
 use Rattle.ann_view.specs.View.{IndexView}
+use Rattle.ann_view.specs.declared.op.Op.{Op}
 
 -- A view shows a list of the journal's index: it stands for it, its segment is the list's current one, and where the place is
 -- sound, that segment holds the list's long-term graph.
@@ -27,7 +28,9 @@ pub record Follows {F S : Type 0} (D : Ghosts F) (bytes : S → List ℕ) (sound
   -- and where the place is sound, each End that waits brings the graph of its merge
   pub brings : IsTrue sound → Bring bytes (index_in journal.log) shown journal.account.waiting leads.entries
 
--- all but what waits is as it was
-pub record IsSameJournal {F S : Type 0} (old new : JournalView F S) : Type 0 where
+-- Some of what waited is shown, in order, and the rest waits; all else is as it was.
+pub record HasShown {F S : Type 0} (old new : JournalView F S) : Type 0 where
   pub log : new.log ≡ old.log
   pub account : new.account ≡ record old.account { waiting = new.account.waiting }
+  pub shown : List (Op S)
+  pub rest : old.account.waiting ≡ shown ++ new.account.waiting

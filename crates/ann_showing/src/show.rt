@@ -1,7 +1,7 @@
 // Showing what waits.
 ghost use Rattle.std.specs.Prelude.{◌≡◌, ◌<◌, [], Bool, length, OnOk};
 ghost use Rattle.ann_types.specs.Lists.{BasedList};
-ghost use Rattle.ann_showing.specs.Showing.{Follows, IsSameJournal};
+ghost use Rattle.ann_showing.specs.Showing.{Follows, HasShown};
 
 use ann_disk::LogFile;
 use ann_journal::Journal;
@@ -18,7 +18,7 @@ pub fn show_all<F: LogFile, S: Sealed>(
 ) -> Result<(), AllocError>
     requires { (sound : Bool) × (h : BasedList) × (shown : BasedList)
         × Follows F.LogFile S.bytes sound h shown journal.old view.old }
-    ensures same { IsSameJournal journal.old journal.new }
+    ensures some { HasShown journal.old journal.new }
     ensures follows { (sound : Bool) (h shown : BasedList)
         → Follows F.LogFile S.bytes sound h shown journal.old view.old
         → (later : BasedList) × Follows F.LogFile S.bytes sound h later journal.new view.new }
@@ -41,7 +41,7 @@ fn show_first<F: LogFile, S: Sealed>(
     requires some { 0 < length journal.old.account.waiting }
     requires follows { (sound : Bool) × (h : BasedList) × (shown : BasedList)
         × Follows F.LogFile S.bytes sound h shown journal.old view.old }
-    ensures same { IsSameJournal journal.old journal.new }
+    ensures some { HasShown journal.old journal.new }
     ensures less { OnOk result (length journal.new.account.waiting < length journal.old.account.waiting) }
     ensures follows { (sound : Bool) (h shown : BasedList)
         → Follows F.LogFile S.bytes sound h shown journal.old view.old

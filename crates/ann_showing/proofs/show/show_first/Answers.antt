@@ -1,6 +1,6 @@
-use Rattle.std.proofs.Common.{sym, subst}
+use Rattle.std.proofs.Common.{[], refl, sym, subst}
 use Rattle.ann_showing.specs.Showing.{Follows}
-use Rattle.ann_showing.proofs.Stepping.{follow_step}
+use Rattle.ann_showing.proofs.Stepping.{follow_step, shown_one}
 use Rattle.ann_showing.proofs.show.show_first.Goals as goal
 
 pub returns-in_err-apply-clause-follows : goal.returns-in_err-apply-clause-follows
@@ -16,3 +16,9 @@ returns-clause-follows g c sound h shown f =
       holds = λ e is old brings. c.in_ok-apply.ensures.holds shown e f.shows.stands is old brings;
     })
     c.in-Some.ensures.1 c.showed.new.self c.showed.ensures.log c.showed.ensures.account f
+
+pub returns-in_err-apply-clause-some : goal.returns-in_err-apply-clause-some
+returns-in_err-apply-clause-some g c = record { log = refl; account = refl; shown = []; rest = refl }
+
+pub returns-clause-some : goal.returns-clause-some
+returns-clause-some g c = shown_one c.args.journal.now c.showed.new.self c.in-Some.op.now c.in-Some.ensures.0 c.in-Some.ensures.1 c.showed.ensures.log c.showed.ensures.account
