@@ -1,0 +1,3 @@
+pub mod Keeps
+pub mod Retired
+pub mod Ends
