@@ -17,7 +17,8 @@ use ann_vault::Sealed;
 /// A vault that holds what a list names, and the segment that the list's job has made, holds what the list with the End of
 /// that merge names.
 pub fn ending<S: Sealed>()
-    ensures { (index : Index) (h : BasedList) (order : Order S) (segment : SegmentView S) (held : Holding) (by : ℕ)
+    ensures { (index : Index) (h : BasedList) (order : Order S) (segment : SegmentView S)
+        (held : Holding) (by : ℕ)
         → S.tells → IsBookOf index.params index.book
         → IsLegal index h → next_pid h ≤ pid_end
         → IsJobOf index h order → IsLti S.bytes index order.old (fold_of index h).lti
