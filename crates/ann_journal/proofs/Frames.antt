@@ -29,7 +29,7 @@ use Rattle.ann_vault.specs.Held.{Holding}
 use Rattle.ann_account.specs.Account.{AccountView, IsAccountOf, IsSameBut}
 use Rattle.ann_account.specs.Steps.{CanNote, LeadOn, MayEndWith, StillLead}
 use Rattle.ann_segment.specs.Segment.{SegmentView}
-use Rattle.ann_journal.specs.Journal.{JournalView, index_in}
+use Rattle.ann_journal.specs.Journal.{JournalView, IsJournalOf, index_in}
 use Rattle.ann_journal.specs.Logged.{CanLog, CanLogAll, CanLogEnd, MayGrow, StaysSafe}
 use Rattle.ann_journal.specs.Safe.{IsSafe}
 use Rattle.ann_journal.proofs.Keeping.{kept_more}
@@ -93,6 +93,13 @@ stand_kept : (held : Holding) (params : Params) (book : CodebookView) (was : Hel
 stand_kept held params book was a b p k kept stands = record { was = was; stands = stands; index = (p, k); list = kept }
 
 -- ---- what stays safe
+
+-- While the log is open, each image of it stands for its list.
+pub safe_open : {F S : Type 0} (D : Ghosts F) (held : Holding) (j : JournalView F S) (h : BasedList) → D.tells → IsJournalOf D h j → AreKept held j.log.params j.log.book.book h → EachPair D.unsynced (StandsFor (held_of j.log)) (files_of j.log) → IsSafe D held j.log h
+safe_open D held j h tells is kept each = record {
+  list = kept;
+  images = λ a is_a b is_b. stand_kept held j.log.params j.log.book (held_of j.log) a b refl refl (kept_here D held j.log h tells is.list is.legal kept) (each a is_a b is_b);
+}
 
 -- The entries stand behind the list.
 pub safe_more : {F : Type 0} (D : Ghosts F) (held : Holding) (old new : LogView F) (h : BasedList) (es : List Entry) → D.tells → IsListOf D old h → IsLegal (index_in old) (with_entries h es) → AreKept held old.params old.book.book (with_entries h es) → HasAppended D old es new → IsSameLog old new → IsSafe D held new (with_entries h es)

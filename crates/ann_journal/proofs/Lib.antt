@@ -1,3 +1,4 @@
+pub mod Bases
 pub mod Keeping
 pub mod Frames
 pub mod Updating

@@ -21,7 +21,7 @@ use Rattle.ann_journal.specs.declared.refused.Unlogged.{Unlogged}
 use Rattle.ann_journal.specs.declared.refused.Unlogged.TheVariants.{Memory, Fault}
 use Rattle.ann_journal.specs.Updated.{entries_by, IsAccepted, HasUpdated}
 
-no_end : (by : ℕ) (changes : List Change) → list_all (λ e. not (is_end e)) (entries_by by changes) ≡ true
+pub no_end : (by : ℕ) (changes : List Change) → list_all (λ e. not (is_end e)) (entries_by by changes) ≡ true
 no_end by [] = refl
 no_end by (Insert tag vector ∷ changes) = no_end by changes
 no_end by (Delete tag ∷ changes) = no_end by changes

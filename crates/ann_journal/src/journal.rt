@@ -1,11 +1,14 @@
-ghost use Rattle.std.specs.Prelude.{◌≡◌, ◌<◌, ◌∷◌, [], List, drop, length, MatchOption};
+ghost use Rattle.std.specs.Prelude.{◌≡◌, ◌<◌, ◌+◌, ◌*◌, ◌∷◌, [], false, List, drop, length, MatchOption};
 ghost use Rattle.ann_types.specs.Lists.{BasedList, live_of};
+ghost use Rattle.ann_state.specs.State.{AreKept};
+ghost use Rattle.ann_vault.specs.Held.{Holding};
 ghost use Rattle.ann_view.specs.declared.op.Op.{Op as Operation};
 ghost use Rattle.ann_journal.specs.Journal.{IsJournalOf};
+ghost use Rattle.ann_journal.specs.Safe.{IsSafe};
 
 use ann_account::Account;
 use ann_disk::LogFile;
-use ann_log::Log;
+use ann_log::{Base, Log};
 use ann_types::Params;
 use ann_vault::Sealed;
 use ann_view::Op;
@@ -43,6 +46,28 @@ impl<F: LogFile, S: Sealed> Journal<F, S> {
         ensures { result.now ≡ self.now.log }
     {
         &self.log
+    }
+
+    /// Whether a call of the log has failed. A closed log isn't extended.
+    pub fn is_closed(&self) -> bool
+        ensures closed { result ≡ self.now.log.is_closed }
+        // While it is open, a place is safe whose vault holds what the list names.
+        ensures safe { F.tells → result ≡ false → (h : BasedList) (held : Holding)
+            → IsJournalOf F.LogFile h self.now
+            → AreKept held self.now.log.params self.now.log.book.book h
+            → IsSafe F.LogFile held self.now.log h }
+    {
+        self.log.is_closed()
+    }
+
+    /// What stood before the entries of the log.
+    pub fn base(&self) -> &Base
+        ensures base { result.now ≡ self.now.log.base }
+        // The number of the base's segment is less than that of each merge behind it.
+        ensures older { (h : BasedList) → IsJournalOf F.LogFile h self.now
+            → h.base.segment < 2 * h.base.position + 1 }
+    {
+        self.log.base()
     }
 
     /// The log by itself. What is known of its list is gone.

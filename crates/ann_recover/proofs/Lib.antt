@@ -12,5 +12,6 @@ pub mod Keeping
 pub mod Sounding
 pub mod Saying
 pub mod Placing
+pub mod Opened
 pub mod Summing
 pub mod NeverBad

@@ -40,12 +40,12 @@ module _ {S : Type 0} (tells : Type 0) (bytes : S → List ℕ) (held : Holding)
   abbrev whole : BasedList
   whole = list_on was.base rep.graph was.entries
 
-  kept_whole : tells → IsKeptList held was → AreKept held was.params was.book.book whole
+  pub kept_whole : tells → IsKeptList held was → AreKept held was.params was.book.book whole
   kept_whole seals is =
       subst (λ g. AreKept held was.params was.book.book (list_on was.base g was.entries))
       (sym (sole_graph tells bytes held was.params was.book.book was.base was.entries rep.graph rep.segment rep.ground seals is.graph is.legal.base is.kept)) is.kept
 
-  kept_left : tells → IsKeptList held was → AreKept held was.params was.book.book rep.left
+  pub kept_left : tells → IsKeptList held was → AreKept held was.params was.book.book rep.left
   kept_left seals is = left_kept was.params was.book.book held whole merge rep.left rep.legal rep.is_left (kept_whole seals is)
 
   stand_whole : (vault : Holding) → AreKept vault was.params was.book.book whole → (one two : List ℕ) → StandsFor was one two → StandKept vault was.params was.book one two

@@ -7,5 +7,6 @@ pub mod Settled
 pub mod Recovered
 pub mod NotRecovered
 pub mod Places
+pub mod Opened
 pub mod Verified
 pub mod Inspected

@@ -3,7 +3,7 @@
 //! `recover` opens the log, reads its base and its entries, makes the view of them, writes the log anew where its list has a
 //! merge that ended or its file is of version 1, and removes the segments that nobody names. A refusal gives all parts back,
 //! and a crash at any moment leaves files that read as before or as the log that was written anew (specs/Renewal.antt). What a
-//! place is that opens again is settled in specs/Places.antt.
+//! place is that opens again is settled in specs/Places.antt, and what its index is then in specs/Opened.antt.
 //!
 //! `inspect` reads the same files and segments, and each node block besides, and writes nothing (specs/Inspected.antt).
 #![tactic(auto)]

@@ -8,6 +8,7 @@ ghost use Rattle.ann_log.specs.Told.{LeaveFiles};
 ghost use Rattle.ann_recover.specs.Causes.{IsCounted, IsOfStore};
 ghost use Rattle.ann_recover.specs.Fresh.{IsFresh, held_with};
 ghost use Rattle.ann_recover.specs.NotRecovered.{IsNotRevived, IsNotRecovered};
+ghost use Rattle.ann_recover.specs.Opened.{IsSoundlyOpened};
 ghost use Rattle.ann_recover.specs.Places.{IsKeptList, StandKept, IsSoundPlace};
 ghost use Rattle.ann_recover.specs.Recovered.{IsRecovered, IsRevived, AreOfList, AreLeft};
 
@@ -55,6 +56,11 @@ pub fn recover<F: LogFile, V: Vault, E: Eye<Seal = V::Seal>>(
         → IsSoundPlace F.LogFile files (V.held vault) params book → MatchResult result
         (λ parts. IsSoundPlace F.LogFile (files_of parts.log) (V.held parts.vault) params book)
         (λ refused. IsSoundPlace F.LogFile refused.files (V.held refused.vault) params book) }
+    // It opens as a sound index: the view's segment holds its graph, and the vault what the list names.
+    ensures opened { F.tells → V.Seal.tells → (params : Params) (book : CodebookView)
+        → IsSoundPlace F.LogFile files (V.held vault) params book → IfOk result (λ parts.
+        IsSoundlyOpened F.LogFile V.Seal.tells V.Seal.bytes (V.held vault) (V.held parts.vault)
+        files params book parts.log parts.view parts.tags parts.begun) }
     // And a crash at any moment leaves files that stand for a list of which the vault held what it names.
     ensures kept { F.tells → V.Seal.tells → (params : Params) (book : CodebookView)
         → IsSoundPlace F.LogFile files (V.held vault) params book → MatchResult result

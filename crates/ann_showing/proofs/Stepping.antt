@@ -91,7 +91,7 @@ same_view shown e view op.Begin is = record { params = refl; book = refl; closed
 same_view shown e view (op.End segment) is = record { params = refl; book = refl; closed = refl }
 same_view shown e view op.Close is = absurd is
 
-view_index : {F S : Type 0} (log : LogView F) (view : IndexView S) → (view.params ≡ log.params) × (view.book ≡ log.book) → index_of view ≡ index_in log
+pub view_index : {F S : Type 0} (log : LogView F) (view : IndexView S) → (view.params ≡ log.params) × (view.book ≡ log.book) → index_of view ≡ index_in log
 view_index log view same = ap₂ (λ p b. let i : Index = record { params = p; book = b } in i) same.0 (ap (λ b. b.book) same.1)
 
 -- ---- one step of a view that follows

@@ -3,6 +3,7 @@ use Rattle.ann_log.specs.LogView.{files_of}
 use Rattle.ann_recover.specs.Fresh.{held_with}
 use Rattle.ann_recover.proofs.NeverBad.{never_load}
 use Rattle.ann_recover.proofs.Leaving.{not_recovered, not_opened}
+use Rattle.ann_recover.proofs.Opened.{recovered_is, soundly_opened}
 use Rattle.ann_recover.proofs.Opening.{has_stood}
 use Rattle.ann_recover.proofs.Placing.{counted_from, read_during, left_during, place_of, place_with, kept_read, index_read, kept_during, refused_kept}
 use Rattle.ann_recover.proofs.Results.{both}
@@ -11,12 +12,7 @@ use Rattle.ann_recover.proofs.recovering.recover.Goals as goal
 pub returns-in-Ok-clause-recovered : goal.returns-in-Ok-clause-recovered
 returns-in-Ok-clause-recovered g c =
     if_ok c.open_list.result _ _
-    (λ parts w. record {
-      was = held_with c.in-Ok.log c.in-Ok.entries;
-      generation = c.in-Ok.log.generation;
-      stood = has_stood g.F.LogFile g.V.Seal.Sealed.tells g.V.Seal.Sealed.bytes (g.V.Vault.held c.args.vault) c.args.files c.in-Ok.log c.in-Ok.entries c.in-Ok.ensures.opened;
-      revived = w;
-    })
+    (λ parts w. recovered_is g.F.LogFile g.V.Seal.Sealed.tells g.V.Seal.Sealed.bytes (g.V.Vault.held c.args.vault) (g.V.Vault.held parts.vault) c.args.files c.in-Ok.log c.in-Ok.entries c.in-Ok.ensures.opened parts.log parts.view parts.tags parts.begun w)
     c.open_list.ensures.revived
 
 pub returns-in-Ok-clause-refused : goal.returns-in-Ok-clause-refused
@@ -45,6 +41,13 @@ returns-in-Ok-clause-sound g c told seals params book sound =
     (λ parts w. place_with g.F.LogFile g.met.F.LogFile.reads_an_image told (files_of parts.log) (g.V.Vault.held parts.vault) params c.in-Ok.log.params book c.in-Ok.log.book index w)
     (λ refused w. place_with g.F.LogFile g.met.F.LogFile.reads_an_image told refused.files (g.V.Vault.held refused.vault) params c.in-Ok.log.params book c.in-Ok.log.book index w)
     (c.open_list.ensures.sound told seals (kept_read g.F.LogFile g.V.Seal.Sealed.tells g.V.Seal.Sealed.bytes (g.V.Vault.held c.args.vault) c.args.files params book told sound (held_with c.in-Ok.log c.in-Ok.entries) c.in-Ok.log.generation stood))
+
+pub returns-in-Ok-clause-opened : goal.returns-in-Ok-clause-opened
+returns-in-Ok-clause-opened g c told seals params book sound =
+    if_ok c.open_list.result _ _
+    (λ parts w. soundly_opened g.F.LogFile g.V.Seal.Sealed.tells g.V.Seal.Sealed.bytes (g.V.Vault.held c.args.vault) (g.V.Vault.held parts.vault) c.args.files params book told seals sound parts.log parts.view parts.tags parts.begun
+    (recovered_is g.F.LogFile g.V.Seal.Sealed.tells g.V.Seal.Sealed.bytes (g.V.Vault.held c.args.vault) (g.V.Vault.held parts.vault) c.args.files c.in-Ok.log c.in-Ok.entries c.in-Ok.ensures.opened parts.log parts.view parts.tags parts.begun w))
+    c.open_list.ensures.revived
 
 pub returns-in-Ok-clause-kept : goal.returns-in-Ok-clause-kept
 returns-in-Ok-clause-kept g c told seals params book sound =

@@ -1,0 +1,8 @@
+use Rattle.std.proofs.Common.{◌≡◌, drop}
+use Rattle.std.specs.List.{list_any}
+use Rattle.ann_core_laws.specs.Events.{is_begin}
+use Rattle.ann_core.proofs.ends.has_begin.Given as goal
+
+-- none is among the entries so far
+abbrev pub invariant-loop-entry : goal.invariant-loop-entry
+invariant-loop-entry l = list_any is_begin (drop l.entry-index l.entries) ≡ list_any is_begin l.entries

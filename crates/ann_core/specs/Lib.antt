@@ -1,0 +1,4 @@
+pub mod Kept
+pub mod Core
+pub mod Opened
+pub mod Made

@@ -1,0 +1,12 @@
+pub mod Following
+pub mod Shown
+pub mod Updating
+pub mod Opened
+pub mod Searching
+pub mod Closing
+pub mod Beginning
+pub mod Causes
+pub mod Ends
+pub mod Starting
+pub mod Merges
+pub mod Crashes

@@ -1,0 +1,7 @@
+pub mod Index
+pub mod Updated
+pub mod Searched
+pub mod Refusals
+pub mod Merged
+pub mod Steps
+pub mod Closed

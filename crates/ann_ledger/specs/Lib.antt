@@ -1,0 +1,4 @@
+pub mod Ledger
+pub mod Opening
+pub mod Merging
+pub mod Clearing
