@@ -1,6 +1,9 @@
 //! Keeps an index of colours in the current folder. The codebook comes from standard input.
 #![tactic(auto)]
 
+ghost use Rattle.std.specs.Prelude.{◌≡◌, ◌≤◌, IfSome};
+ghost use Rattle.ann_index.specs.Index.{eye_count};
+
 use ann_disk::DiskFile;
 use ann_index::Index;
 use ann_init::{InitEnd, init};
@@ -15,7 +18,9 @@ use std::io::Error;
 type Colours = Index<DiskFile<HostRuntime>, FolderVault<HostRuntime>, FolderEye>;
 
 /// Makes the index, unless it is there, and opens it.
-fn open(rt: HostRuntime) -> Option<Colours> {
+fn open(rt: HostRuntime) -> Option<Colours>
+    ensures { IfSome result (λ index. 1 ≤ eye_count index.kept.stock.tools) }
+{
     let alloc = rt.alloc();
     let params = Params::new(3, 16, 32, 12, 10, 4, 3, 1000)?;
     let first = DiskFile::new(rt, "ann.log");
@@ -23,12 +28,16 @@ fn open(rt: HostRuntime) -> Option<Colours> {
     let mut input = StdSource::new(rt.stdin());
     let InitEnd { files, .. } = init(alloc, &mut input, Files { first, second }, &params);
     let eyes = vec![in alloc; FolderEye::new()].ok()?;
-    let parts = recover(alloc, files, FolderVault::new(rt), eyes).ok()?;
-    Index::open(alloc, parts, FolderEye::new()).ok()
+    match recover(alloc, files, FolderVault::new(rt), eyes) {
+        Ok(parts) if !parts.eyes.is_empty() => Index::open(alloc, parts, FolderEye::new()).ok(),
+        _ => None,
+    }
 }
 
 /// Names a colour.
-fn name(rt: HostRuntime, colours: &mut Colours, tag: u64, rgb: [u8; 3]) -> Result<(), Error> {
+fn name(rt: HostRuntime, colours: &mut Colours, tag: u64, rgb: [u8; 3]) -> Result<(), Error>
+    ensures { eye_count colours.new.kept.stock.tools ≡ eye_count colours.old.kept.stock.tools }
+{
     let vector = Vector::copy(rt.alloc(), &rgb)?;
     match colours.update(&[Change::Insert { tag, vector }]) {
         Ok(receipt) => println!(rt; "colour {tag} is entry {}", receipt.at),

@@ -1,6 +1,6 @@
 //! Where an index of points on a line is kept, in memory, and how it is opened.
 
-ghost use Rattle.std.specs.Prelude.{◌≡◌, IfOk};
+ghost use Rattle.std.specs.Prelude.{◌≤◌, IfOk};
 ghost use Rattle.ann_index.specs.Index.{eye_count};
 
 use ann_disk::MemoryFile;
@@ -93,23 +93,27 @@ pub(crate) fn placed(
 }
 
 /// The index of a place, opened again, or why it isn't.
-#[tactic(auto, using(ann_ledger::proofs::Parts::parts_of))]
 pub(crate) fn tried(alloc: Global, place: Place) -> Result<Result<Line, RecoverWhy>, Fail>
-    ensures { IfOk result (λ tried. IfOk tried (λ index. eye_count index.kept.stock.tools ≡ 1)) }
+    ensures { IfOk result (λ tried. IfOk tried (λ index. 1 ≤ eye_count index.kept.stock.tools)) }
 {
     let eyes = vec![in alloc; place.worker]?;
     match recover(alloc, place.files, place.vault, eyes) {
-        Ok(parts) => match Index::open(alloc, parts, place.eye) {
-            Ok(index) => Ok(Ok(index)),
-            Err(_) => Err("no memory".into()),
-        },
+        Ok(parts) => {
+            if parts.eyes.is_empty() {
+                return Err("no eye came back".into());
+            }
+            match Index::open(alloc, parts, place.eye) {
+                Ok(index) => Ok(Ok(index)),
+                Err(_) => Err("no memory".into()),
+            }
+        }
         Err(refused) => Ok(Err(refused.why)),
     }
 }
 
 /// The index of a place, opened again.
 pub(crate) fn opened(alloc: Global, place: Place) -> Result<Line, Fail>
-    ensures { IfOk result (λ index. eye_count index.kept.stock.tools ≡ 1) }
+    ensures { IfOk result (λ index. 1 ≤ eye_count index.kept.stock.tools) }
 {
     match tried(alloc, place)? {
         Ok(index) => Ok(index),
