@@ -394,6 +394,7 @@ struct Lists {
     Core core;
     u32 range = 256, tags = 10; // components are below this; tags are so many from the first on
     u64 first_tag = 0;
+    std::vector<Vec> filled; // the vectors of the points that a list takes first
 
     void tell(const std::string &event, const std::string &step) {
         fprintf(script, "%s\n", event.c_str());
@@ -440,6 +441,7 @@ struct Lists {
         }
         core = Core();
         core.index = index;
+        filled.clear();
         tell(text, std::string("core"));
     }
 
@@ -497,11 +499,18 @@ struct Lists {
             std::vector<Entry> entries;
             for (u32 i = 0; i < count; i++) {
                 u64 tag = first_tag + core.logged.live.size() + i;
-                entries.push_back({Kind::Insert, 0, tag, vector(core.index.d)});
+                filled.push_back(vector(core.index.d));
+                entries.push_back({Kind::Insert, 0, tag, filled.back()});
             }
             frame(entries);
             points -= count;
         }
+    }
+
+    // A vector, of another length now and then. It is often one of the last that a list took first.
+    Vec query() {
+        if (filled.empty() || dice.one_in(3)) return vector(dice.one_in(40) ? dice.from(0, 6) : core.index.d);
+        return filled[filled.size() - 1 - dice.below(std::min<size_t>(filled.size(), dice.one_in(2) ? 4 : 1000))];
     }
 
     // A reader that is mostly in, or out.
@@ -517,7 +526,7 @@ struct Lists {
     void reply() {
         u32 at = reader(true), l = dice.one_in(6) ? dice.from(20, 1000) : dice.from(1, 12);
         u32 k = dice.one_in(2) ? l : dice.from(1, l);
-        Vec q = vector(dice.one_in(40) ? dice.from(0, 6) : core.index.d);
+        Vec q = query();
         std::string text = "reply " + std::to_string(at) + " " + std::to_string(k) + " " + std::to_string(l) + words(q);
         tell(text, core.reply(at, k, l, q));
     }
@@ -568,20 +577,35 @@ struct Lists {
     void event() {
         u32 roll = dice.below(20);
         if (roll < 7) return random_frame();
-        if (roll < 9) {
-            core.shown = std::make_shared<State>(core.logged);
-            return tell("show", true);
-        }
+        if (roll < 9) return show();
         if (roll < 15) return reader_event();
         if (core.logged.begun || core.kept.size() > 1 || dice.one_in(20)) return merge_event();
         random_frame();
     }
 
-    // How many points the list of a number takes first. Most take none.
+    // How many points the list of a number takes first: none in most, and else often as many as a base or pieces have.
     u32 points_of(u64 number) {
-        if (number % 2000 == 0) return dice.from(1001, 1100);
-        if (number % 50 == 0) return dice.from(200, 600);
+        if (number % 2000 == 0) return dice.from(999, 1003);
+        if (number % 50 == 0) return dice.one_in(2) ? 256 * dice.from(1, 2) + dice.from(0, 2) - 1 : dice.from(200, 600);
         return number % 4 == 0 ? dice.from(10, 80) : 0;
+    }
+
+    void show() {
+        core.shown = std::make_shared<State>(core.logged);
+        tell("show", true);
+    }
+
+    // Makes the open merge, piece by piece, and searches what it has made.
+    void merge_at_once() {
+        while (core.pieces.size() < core.pieces_of_open()) {
+            u64 number = piece_number();
+            tell("piece " + std::to_string(number), core.piece(number));
+        }
+        tell("seal", core.seal());
+        tell("switch 0", core.switch_by(0));
+        show();
+        tell("enter 0", core.enter(0));
+        for (u32 count = 0; count < 20; count++) reply();
     }
 
     // A list that first takes so many points.
@@ -589,6 +613,7 @@ struct Lists {
         start(points);
         fill(points);
         if (points) frame({{Kind::Begin, 0, 0, {}}});
+        if (points && dice.one_in(2)) merge_at_once();
         for (u32 count = dice.from(20, 160); count; count--) event();
     }
 };

@@ -6,8 +6,8 @@
 FOLDER takes the programs, the lists and what both say of them. The core is `ann_core::Core`, which `ann_events` steps; that is made
 in FOLDER/repository beside a copy of the crates, and proved before it is built. `events.cpp` makes the lists, and says what they come
 to by the definitions alone. One list in four begins with 10 to 80 points; one in fifty with 200 to 600, so that its merges have up to
-three pieces; and one in two thousand with more than a thousand, which is more than a base without survivors takes. It prints for each
-kind of event how often it took place and how often it was refused, and ends at the first step that differs, with status 1.
+three pieces; and one in two thousand with about a thousand, as many as a base without survivors takes. It prints for each kind of
+event how often it took place and how often it was refused, and ends at the first step that differs, with status 1.
 """
 import collections
 import itertools
