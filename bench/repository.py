@@ -17,10 +17,10 @@ def built(crate, *words):
     return path
 
 
-def built_beside(folder, line, *words):
-    """The program of a crate of bench/, made in a copy of the crates in FOLDER/repository. LINE is the crate's in crates.txt.
+def laid_beside(folder, line):
+    """The folder of a crate of bench/, made in a copy of the crates in FOLDER/repository. LINE is the crate's in crates.txt.
     Its sources end in .txt here, so that the gate takes them for no crate."""
-    name = line.split(":")[0]
+    name = line.split(":")[0].split()[0]
     there = os.path.join(folder, "repository")
     crate = os.path.join(there, "crates", name)
     if not os.path.exists(there):
@@ -35,7 +35,12 @@ def built_beside(folder, line, *words):
         for path, _, names in os.walk(crate):
             for source in names:
                 os.rename(os.path.join(path, source), os.path.join(path, source.removesuffix(".txt")))
-    return built(crate, *words)
+    return crate
+
+
+def built_beside(folder, line, *words):
+    """The program of a crate of bench/, made in a copy of the crates in FOLDER/repository."""
+    return built(laid_beside(folder, line), *words)
 
 
 def descriptors(folder):
