@@ -8,7 +8,7 @@ use Rattle.ann_fault.specs.Counts.{Rose}
 use Rattle.ann_log.specs.LogView.{LogView}
 use Rattle.ann_vault.specs.Held.{Holding}
 use Rattle.ann_journal.specs.Safe.{IsSafe}
-use Rattle.ann_stock.specs.Cleared.{HasCleared, HasClearedBy}
+use Rattle.ann_stock.specs.Cleared.{HasClearedBy}
 use Rattle.ann_stock.specs.Stock.{StockView, ToolsView, AtHand, GivenBack, Out, parts_in}
 use Rattle.ann_ledger.specs.Clearing.{IsClearing, IsClearingBy}
 use Rattle.ann_ledger.specs.Ledger.{AreToolsFor}

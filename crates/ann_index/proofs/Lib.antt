@@ -10,3 +10,5 @@ pub mod Ends
 pub mod Starting
 pub mod Merges
 pub mod Crashes
+pub mod Counted
+pub mod Doubts

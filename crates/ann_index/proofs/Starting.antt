@@ -1,10 +1,10 @@
 -- The job of a merge that begins, or goes on.
-use Rattle.std.proofs.Common.{◌≡◌, ◌∙◌, ℕ, Bool, true, false, List, [], ◌∷◌, inl, inr, refl, ap, subst, sym}
-use Rattle.std.specs.Prelude.{IsSome, IsTrue, Option, Some, None, Result, Ok, Err}
+use Rattle.std.proofs.Common.{◌≡◌, ◌∙◌, ℕ, Bool, true, false, List, [], ◌∷◌, inl, refl, ap, subst, sym}
+use Rattle.std.specs.Prelude.{IsSome, Option, Some, None, Ok}
 use Rattle.std.proofs.lemmas.Bool.{false≢true}
 use Rattle.ann_types.specs.Fold.{Begun, State, fold_of}
 use Rattle.ann_types.specs.Index.{Index}
-use Rattle.ann_types.specs.Lists.{BasedList, BeginsWith, length_of, with_entry}
+use Rattle.ann_types.specs.Lists.{BasedList, BeginsWith, with_entry}
 use Rattle.ann_types.specs.declared.entry.Entry.TheVariants.{Begin}
 use Rattle.ann_types.proofs.Folds.{fold_push}
 use Rattle.ann_disk.specs.declared.file.LogFile.{Ghosts}

@@ -1,4 +1,5 @@
 pub mod Index
+pub mod Doubt
 pub mod Updated
 pub mod Searched
 pub mod Refusals

@@ -4,9 +4,11 @@ ghost use Rattle.ann_types.specs.Lists.{BasedList};
 ghost use Rattle.ann_log.specs.Appended.{IsSameLog};
 ghost use Rattle.ann_log.specs.LogView.{files_of, held_of};
 ghost use Rattle.ann_log.specs.Told.{LeaveFiles};
+ghost use Rattle.ann_vault.specs.Counted.{CountsFault};
 ghost use Rattle.ann_journal.specs.Journal.{index_in};
 ghost use Rattle.ann_index.specs.Index.{IsIndexOf, eye_count, kept_of};
 ghost use Rattle.ann_index.specs.Merged.{IsMergeOf, IsOfMerge};
+ghost use Rattle.ann_index.specs.declared.refusal.MergeRefused.TheVariants.{LogFault};
 
 use crate::begin::start;
 use crate::ending::end_shown;
@@ -104,6 +106,9 @@ impl<F: LogFile, S: Sealed + Send + Sync, V: Vault<Seal = S>, E: Eye<Seal = S> +
         ensures eyes { eye_count self.new.kept.stock.tools ≡ eye_count self.old.kept.stock.tools }
         ensures same_log { IsSameLog self.old.kept.journal.log self.new.kept.journal.log }
         ensures rest { self.new ≡ record self.old { kept = self.new.kept } }
+        // The log's count of faults rises by one where the answer is `LogFault`, and else stays.
+        ensures cause { CountsFault (λ why. why ≡ LogFault) result
+            (F.faults self.old.kept.journal.log.log) (F.faults self.new.kept.journal.log.log) }
         // A crash at any moment leaves the list as it was, with the Begin of the merge, or with its End too.
         ensures during { (sound : Bool) (h shown : BasedList)
             → IsIndexOf F.LogFile S.tells S.bytes V.held sound h shown self.old.kept

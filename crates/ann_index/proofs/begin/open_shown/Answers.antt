@@ -6,13 +6,11 @@ use Rattle.ann_account.specs.Steps.{StillLead}
 use Rattle.ann_journal.specs.Journal.{index_in}
 use Rattle.ann_stock.specs.Stock.{StockView}
 use Rattle.ann_ledger.specs.Ledger.{IsLedgerOf}
-use Rattle.ann_ledger.specs.Merging as ledger
 use Rattle.ann_ledger.specs.Merging.{IsOpening, list_behind}
 use Rattle.ann_ledger.specs.declared.refused.Unopened.{Unopened}
 use Rattle.ann_ledger.specs.declared.refused.Unopened.TheVariants as opening
 use Rattle.ann_index.specs.Index.{IsIndexOf, kept_of}
 use Rattle.ann_index.specs.Steps.{IsOpened}
-use Rattle.ann_index.specs.declared.refusal.MergeRefused.{MergeRefused}
 use Rattle.ann_index.specs.declared.refusal.MergeRefused.TheVariants.{Nothing, Memory, LogFault, MemoryLogged}
 use Rattle.ann_index.proofs.Shown.{index_all, index_from}
 use Rattle.ann_index.proofs.Updating.{same_log_by, same_log_then}

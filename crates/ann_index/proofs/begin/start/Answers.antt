@@ -1,8 +1,8 @@
-use Rattle.std.proofs.Common.{◌≡◌, ◌∙◌, [], ◌∷◌, Bool, true, false, ap, refl, subst, sym}
+use Rattle.std.proofs.Common.{◌≡◌, ◌∙◌, [], ◌∷◌, Bool, ap, refl, subst, sym}
 use Rattle.std.specs.Prelude.{IsSome, Result, Ok, Err, None}
 use Rattle.std.proofs.lemmas.Result.{err_from_is_err_and}
 use Rattle.ann_types.specs.Fold.{fold_of}
-use Rattle.ann_types.specs.Lists.{BasedList, with_entry}
+use Rattle.ann_types.specs.Lists.{BasedList}
 use Rattle.ann_types.specs.declared.entry.Entry.TheVariants.{Begin}
 use Rattle.ann_log.specs.LogView.{LogView, files_of, held_of, IsBeforeOrAfter}
 use Rattle.ann_log.specs.Pairs.{EachPair, LeavePairs}

@@ -1,16 +1,16 @@
-use Rattle.std.proofs.Common.{◌≡◌, ◌∙◌, [], ◌∷◌, Bool, ap, refl, subst, sym}
-use Rattle.std.specs.Prelude.{Err, IsTrue}
+use Rattle.std.proofs.Common.{◌≡◌, ◌∙◌, Bool, ap, refl, subst, sym}
+use Rattle.std.specs.Prelude.{Err}
 use Rattle.ann_types.specs.Lists.{BasedList, with_entry}
 use Rattle.ann_types.specs.declared.entry.Entry.TheVariants.{End}
 use Rattle.ann_log.specs.Appended.{IsSameLog}
 use Rattle.ann_merge.specs.Job.{JobView}
 use Rattle.ann_journal.specs.Journal.{JournalView}
 use Rattle.ann_stock.specs.Stock.{StockView, ToolsView, GivenBack}
-use Rattle.ann_ledger.specs.Ledger.{IsJobOn, IsLedgerOf}
+use Rattle.ann_ledger.specs.Ledger.{IsLedgerOf}
 use Rattle.ann_ledger.specs.Merging as ledger
 use Rattle.ann_index.specs.Index.{IsIndexOf, eye_count, kept_of}
 use Rattle.ann_index.specs.Refusals.{of_finish}
-use Rattle.ann_index.specs.Steps.{IsFinish, IsUnderWay}
+use Rattle.ann_index.specs.Steps.{IsFinish}
 use Rattle.ann_index.specs.declared.refusal.MergeRefused.{MergeRefused}
 use Rattle.ann_index.proofs.Shown.{index_all, index_from}
 use Rattle.ann_index.proofs.Updating.{same_log_by, same_log_then}

@@ -1,5 +1,5 @@
-use Rattle.std.proofs.Common.{◌≡◌, ◌∙◌, [], ◌∷◌, ◌++◌, Bool, true, false, ap, inl, inr, refl, subst, sym}
-use Rattle.std.specs.Prelude.{IsSome, Result, Ok, Err}
+use Rattle.std.proofs.Common.{◌≡◌, ◌∙◌, [], ◌∷◌, Bool, false, ap, inl, subst, sym}
+use Rattle.std.specs.Prelude.{IsSome, Result, Err}
 use Rattle.std.proofs.lemmas.Result.{err_from_is_err_and}
 use Rattle.ann_types.specs.Fold.{fold_of}
 use Rattle.ann_types.specs.Index.{Index}
@@ -12,11 +12,11 @@ use Rattle.ann_log.specs.Text.{StandsFor}
 use Rattle.ann_mbegin.specs.Begun.{IsJobOf}
 use Rattle.ann_journal.specs.Journal.{JournalView, index_in}
 use Rattle.ann_showing.specs.Showing.{Follows}
-use Rattle.ann_stock.specs.Stock.{StockView, ToolsView, Out}
-use Rattle.ann_ledger.specs.Ledger.{IsJobOn, IsLedgerOf}
+use Rattle.ann_stock.specs.Stock.{StockView}
+use Rattle.ann_ledger.specs.Ledger.{IsLedgerOf}
 use Rattle.ann_index.specs.Index.{IsIndexOf, kept_of}
-use Rattle.ann_index.specs.Merged.{HasMerged, IsBegun, IsMergeOf, IsOfMerge, IsRefused, begun, segment_for}
-use Rattle.ann_index.specs.Steps.{HasFinished, HasStarted, HasWorkedOut, IsFinish, IsStart, IsUnderWay}
+use Rattle.ann_index.specs.Merged.{HasMerged, IsBegun, IsMergeOf, IsRefused, begun, segment_for}
+use Rattle.ann_index.specs.Steps.{HasFinished, HasStarted, HasWorkedOut, IsUnderWay}
 use Rattle.ann_index.specs.declared.refusal.Merged.{Merged}
 use Rattle.ann_index.specs.declared.refusal.MergeRefused.{MergeRefused}
 use Rattle.ann_index.proofs.Crashes.{Leaves, unmoved, while_ending, while_starting}

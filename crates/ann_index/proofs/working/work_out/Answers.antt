@@ -1,4 +1,4 @@
-use Rattle.std.proofs.Common.{◌≡◌, ◌∙◌, false, ap, refl, subst, sym}
+use Rattle.std.proofs.Common.{◌∙◌, ap, refl, subst, sym}
 use Rattle.ann_ledger.specs.Ledger.{IsJobOn}
 use Rattle.ann_stock.specs.Stock.{StockView}
 use Rattle.ann_index.specs.Steps.{IsWorkCause}

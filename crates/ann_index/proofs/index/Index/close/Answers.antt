@@ -1,6 +1,5 @@
-use Rattle.std.proofs.Common.{◌≡◌, [], length, subst, sym, ◌∙◌}
+use Rattle.std.proofs.Common.{[], subst, sym}
 use Rattle.ann_types.specs.Legal.{IsLegal}
-use Rattle.ann_types.specs.Lists.{with_entries}
 use Rattle.ann_account.specs.Account.{AccountView}
 use Rattle.ann_account.specs.Steps.{CanNote}
 use Rattle.ann_log.specs.LogView.{LogView}
