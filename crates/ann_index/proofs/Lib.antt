@@ -12,3 +12,6 @@ pub mod Merges
 pub mod Crashes
 pub mod Counted
 pub mod Doubts
+pub mod Stages
+pub mod Devices
+pub mod Left
