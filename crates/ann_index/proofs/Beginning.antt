@@ -1,6 +1,6 @@
 -- What a merge leaves where it begins.
-use Rattle.std.proofs.Common.{◌≡◌, ◌∙◌, ℕ, Bool, true, false, List, [], ◌∷◌, inl, inr, refl, ap, subst, sym}
-use Rattle.std.specs.Prelude.{IsSome, IsTrue, Option, None, Result, Ok, Err, is_some}
+use Rattle.std.proofs.Common.{◌≡◌, ◌∙◌, ℕ, Bool, true, false, List, [], ◌∷◌, inl, ap, subst, sym}
+use Rattle.std.specs.Prelude.{IsSome, Option, None, Result, Ok, Err, is_some}
 use Rattle.std.proofs.lemmas.Bool.{false≢true}
 use Rattle.ann_types.specs.Fold.{Begun, fold_of}
 use Rattle.ann_types.specs.Lists.{BasedList, length_of, with_entry}
@@ -12,7 +12,6 @@ use Rattle.ann_log.specs.LogView.{LogView}
 use Rattle.ann_vault.specs.Held.{Holding}
 use Rattle.ann_view.specs.View.{IndexView}
 use Rattle.ann_journal.specs.Journal.{JournalView, IsJournalOf, index_in}
-use Rattle.ann_journal.specs.Logged.{HasLogged}
 use Rattle.ann_journal.specs.declared.refused.Receipt.{Receipt}
 use Rattle.ann_stock.specs.Stock.{StockView, ToolsView}
 use Rattle.ann_ledger.specs.Ledger.{IsLedgerOf}

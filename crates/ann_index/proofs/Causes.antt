@@ -1,5 +1,5 @@
 -- Why the job of a merge isn't done.
-use Rattle.std.proofs.Common.{◌≡◌, ◌∙◌, ℕ, Bool, List, ap₂, subst, sym}
+use Rattle.std.proofs.Common.{◌≡◌, ℕ, Bool, List, ap₂, subst, sym}
 use Rattle.std.specs.Prelude.{IsTrue}
 use Rattle.ann_types.specs.Fold.{fold_of}
 use Rattle.ann_types.specs.Index.{Index}

@@ -8,7 +8,7 @@ use Rattle.ann_fault.specs.Counts.{Rose}
 use Rattle.ann_log.specs.LogView.{LogView}
 use Rattle.ann_vault.specs.Held.{Holding}
 use Rattle.ann_journal.specs.Safe.{IsSafe}
-use Rattle.ann_stock.specs.Cleared.{HasCleared, HasClearedBy}
+use Rattle.ann_stock.specs.Cleared.{HasClearedBy}
 use Rattle.ann_stock.specs.Stock.{StockView, ToolsView, AtHand, GivenBack, Out, parts_in}
 use Rattle.ann_ledger.specs.Clearing.{IsClearing, IsClearingBy}
 use Rattle.ann_ledger.specs.Ledger.{AreToolsFor}
@@ -20,10 +20,10 @@ use Rattle.ann_index.specs.Index.{KeptView}
 pairs_in : {A B : Type 0} (p q : A × B) → Some p ≡ Some q → p ≡ q
 pairs_in p q e = cc
 
-vault_in : {V E : Type 0} (p q : V × List E) → Some p ≡ Some q → p.0 ≡ q.0
+pub vault_in : {V E : Type 0} (p q : V × List E) → Some p ≡ Some q → p.0 ≡ q.0
 vault_in {V} {E} p q e = ap (λ (x : V × List E). x.0) (pairs_in p q e)
 
-eyes_in : {V E : Type 0} (p q : V × List E) → Some p ≡ Some q → p.1 ≡ q.1
+pub eyes_in : {V E : Type 0} (p q : V × List E) → Some p ≡ Some q → p.1 ≡ q.1
 eyes_in {V} {E} p q e = ap (λ (x : V × List E). x.1) (pairs_in p q e)
 
 -- ---- what was cleared

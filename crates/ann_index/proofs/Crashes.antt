@@ -1,5 +1,5 @@
 -- What a crash leaves while a merge goes on.
-use Rattle.std.proofs.Common.{◌≡◌, ◌∙◌, ◌⊎◌, ◌++◌, ℕ, List, [], ◌∷◌, inl, inr, refl, ap, append-nil, append_assoc, subst, sym}
+use Rattle.std.proofs.Common.{◌≡◌, ◌∙◌, ◌++◌, ℕ, List, [], ◌∷◌, inl, inr, refl, ap, append-nil, append_assoc, subst, sym}
 use Rattle.std.specs.Prelude.{IsSome, Option, Some, None}
 use Rattle.ann_types.specs.Fold.{Begun, fold_of}
 use Rattle.ann_types.specs.Lists.{BasedList}

@@ -1,8 +1,8 @@
 -- What a merge leaves where it ends.
-use Rattle.std.proofs.Common.{◌≡◌, ◌∙◌, ℕ, Bool, true, false, List, [], ◌∷◌, ap, subst, sym}
-use Rattle.std.specs.Prelude.{IsTrue, Result, Ok, Err, MatchResult}
+use Rattle.std.proofs.Common.{◌≡◌, ◌∙◌, ℕ, Bool, false, List, [], ◌∷◌, ap, subst, sym}
+use Rattle.std.specs.Prelude.{IsTrue, Err}
 use Rattle.std.proofs.lemmas.Bool.{false≢true}
-use Rattle.ann_types.specs.Lists.{BasedList, length_of, with_entry}
+use Rattle.ann_types.specs.Lists.{BasedList, with_entry}
 use Rattle.ann_types.specs.declared.entry.Entry.TheVariants.{End}
 use Rattle.ann_account.specs.Steps.{StillLead}
 use Rattle.ann_disk.specs.declared.file.LogFile.{Ghosts}

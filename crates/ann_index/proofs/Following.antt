@@ -9,7 +9,7 @@ use Rattle.ann_account.specs.Steps.{AreSteps, Bring, Lead, LeadOn, StillLead}
 use Rattle.ann_disk.specs.declared.file.LogFile.{Ghosts}
 use Rattle.ann_log.specs.LogView.{LogView}
 use Rattle.ann_named.specs.Named.{IsCurrent}
-use Rattle.ann_view.specs.View.{IndexView, index_of}
+use Rattle.ann_view.specs.View.{IndexView}
 use Rattle.ann_view.specs.declared.op.Op.{Op}
 use Rattle.ann_journal.specs.Journal.{JournalView, IsJournalOf, index_in}
 use Rattle.ann_showing.specs.Showing.{Follows, Shows}

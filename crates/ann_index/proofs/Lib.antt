@@ -10,3 +10,8 @@ pub mod Ends
 pub mod Starting
 pub mod Merges
 pub mod Crashes
+pub mod Counted
+pub mod Doubts
+pub mod Stages
+pub mod Devices
+pub mod Left

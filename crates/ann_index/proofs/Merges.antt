@@ -1,24 +1,23 @@
 -- A merge, by its steps.
-use Rattle.std.proofs.Common.{◌≡◌, ◌∙◌, ◌+◌, ◌*◌, ◌++◌, ℕ, Bool, true, false, List, [], ◌∷◌, inl, inr, refl, ap, subst, sym}
-use Rattle.std.specs.Prelude.{IsTrue, Option, Some, None, Result, Ok, Err}
+use Rattle.std.proofs.Common.{◌≡◌, ◌∙◌, ◌+◌, ◌*◌, ℕ, Bool, true, false, List, [], ◌∷◌, inl, inr, refl, ap, subst, sym}
+use Rattle.std.specs.Prelude.{Option, Some, None, Err}
 use Rattle.ann_types.specs.Fold.{Begun, State, fold_of, step}
 use Rattle.ann_types.specs.Index.{Index}
 use Rattle.ann_types.specs.Lists.{BasedList, BeginsWith, length_of, with_entry}
 use Rattle.ann_types.specs.declared.entry.Entry.TheVariants.{Begin, End}
 use Rattle.ann_types.proofs.Folds.{fold_push}
 use Rattle.ann_disk.specs.declared.file.LogFile.{Ghosts}
-use Rattle.ann_log.specs.Appended.{HasAppended, HasNotAppended}
+use Rattle.ann_log.specs.Appended.{HasAppended}
 use Rattle.ann_log.specs.LogView.{LogView}
 use Rattle.ann_vault.specs.Held.{Holding}
 use Rattle.ann_view.specs.View.{IndexView}
 use Rattle.ann_merge.specs.Job.{JobView, Order}
 use Rattle.ann_mbegin.specs.Begun.{IsJobOf}
 use Rattle.ann_journal.specs.Journal.{JournalView, index_in}
-use Rattle.ann_journal.specs.declared.refused.Receipt.{Receipt}
 use Rattle.ann_showing.specs.Showing.{Follows}
 use Rattle.ann_stock.specs.Stock.{StockView, ToolsView, AtHand, GivenBack, Out, IsAtHand, parts_in}
 use Rattle.ann_ledger.specs.Clearing.{IsClearing, IsClearingBy}
-use Rattle.ann_ledger.specs.Ledger.{IsJobOn, IsLedgerOf}
+use Rattle.ann_ledger.specs.Ledger.{IsLedgerOf}
 use Rattle.ann_stock.specs.Cleared.{HasClearedBy}
 use Rattle.ann_index.specs.Index.{KeptView, IsIndexOf, IsIndexFrom, kept_of}
 use Rattle.ann_index.specs.Merged as mine

@@ -1,10 +1,10 @@
 -- What a search leaves, by what the search of its view does.
-use Rattle.std.proofs.Common.{◌≡◌, ◌≢◌, ◌⊎◌, ◌∙◌, ℕ, Bool, List, ap, inl, inr, length, map, subst, sym}
-use Rattle.std.specs.Prelude.{Result, Ok, Err, IsTrue, IsErrOf, IfOk, IfErr, OnOk}
+use Rattle.std.proofs.Common.{◌≡◌, ◌≢◌, ◌∙◌, ℕ, Bool, List, inl, inr, length, map, subst}
+use Rattle.std.specs.Prelude.{Result, Ok, Err, IsErrOf, IfOk, OnOk}
 use Rattle.std.proofs.lemmas.Bool.{cases_eq}
 use Rattle.ann_types.specs.Answer.{answer}
 use Rattle.ann_types.specs.Index.{Index}
-use Rattle.ann_types.specs.Lists.{BasedList, BeginsWith, length_of}
+use Rattle.ann_types.specs.Lists.{BasedList, BeginsWith}
 use Rattle.ann_types.specs.declared.ask.Ask.{Ask}
 use Rattle.ann_disk.specs.declared.file.LogFile.{Ghosts}
 use Rattle.ann_vault.specs.Held.{Holding}
@@ -15,7 +15,7 @@ use Rattle.ann_beam.specs.declared.refused.SearchRefused.{SearchRefused}
 use Rattle.ann_beam.specs.declared.refused.SearchRefused.TheVariants.{Dimension}
 use Rattle.ann_view.specs.Search.{IsAnswered, from_near, quest_in}
 use Rattle.ann_view.specs.Stands.{lti_of}
-use Rattle.ann_view.specs.View.{IndexView, index_of}
+use Rattle.ann_view.specs.View.{index_of}
 use Rattle.ann_view.specs.declared.search.Found.{Found}
 use Rattle.ann_journal.specs.Journal.{index_in}
 use Rattle.ann_showing.proofs.Stepping.{view_index}

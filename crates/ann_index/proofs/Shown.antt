@@ -1,5 +1,5 @@
 -- What a view shows once some of what waited is shown.
-use Rattle.std.proofs.Common.{◌≡◌, ◌∙◌, ◌≤◌, ◌+◌, ℕ, zero, suc, Bool, List, [], ◌∷◌, ◌++◌, refl, ap, ap₂, subst, sym, length, arith, length-append, append-nil, append_assoc}
+use Rattle.std.proofs.Common.{◌≡◌, ◌∙◌, ◌≤◌, ℕ, suc, Bool, List, [], ◌∷◌, ◌++◌, refl, ap, ap₂, subst, sym, length, arith, length-append, append-nil, append_assoc}
 use mathlib.Core.List.{IsPrefix}
 use Rattle.ann_types.specs.Index.{Index}
 use Rattle.ann_types.specs.Lists.{BasedList, BeginsWith, with_entries}

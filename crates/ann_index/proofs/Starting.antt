@@ -1,10 +1,10 @@
 -- The job of a merge that begins, or goes on.
-use Rattle.std.proofs.Common.{◌≡◌, ◌∙◌, ℕ, Bool, true, false, List, [], ◌∷◌, inl, inr, refl, ap, subst, sym}
-use Rattle.std.specs.Prelude.{IsSome, IsTrue, Option, Some, None, Result, Ok, Err}
+use Rattle.std.proofs.Common.{◌≡◌, ◌∙◌, ℕ, Bool, true, false, List, [], ◌∷◌, inl, refl, ap, subst, sym}
+use Rattle.std.specs.Prelude.{IsSome, Option, Some, None, Ok}
 use Rattle.std.proofs.lemmas.Bool.{false≢true}
 use Rattle.ann_types.specs.Fold.{Begun, State, fold_of}
 use Rattle.ann_types.specs.Index.{Index}
-use Rattle.ann_types.specs.Lists.{BasedList, BeginsWith, length_of, with_entry}
+use Rattle.ann_types.specs.Lists.{BasedList, BeginsWith, with_entry}
 use Rattle.ann_types.specs.declared.entry.Entry.TheVariants.{Begin}
 use Rattle.ann_types.proofs.Folds.{fold_push}
 use Rattle.ann_disk.specs.declared.file.LogFile.{Ghosts}
@@ -18,7 +18,7 @@ use Rattle.ann_stock.specs.Stock.{StockView, ToolsView, AtHand, GivenBack, Out, 
 use Rattle.ann_ledger.specs.Ledger.{AreToolsFor, IsJobOn, IsLedgerOf}
 use Rattle.ann_ledger.specs.Merging.{IsTaken}
 use Rattle.ann_index.specs.Index.{KeptView, IsIndexOf, kept_of}
-use Rattle.ann_index.specs.Merged.{begun, begun_by, IsBegun, IsBegunBy, IsRefused}
+use Rattle.ann_index.specs.Merged.{HasBegun, begun, begun_by, IsBegun, IsBegunBy, IsRefused}
 use Rattle.ann_index.specs.Steps.{HasStarted, IsOpened, IsUnderWay}
 use Rattle.ann_index.proofs.Shown.{begins_self, begins_with}
 use Rattle.ann_index.specs.declared.refusal.MergeRefused.TheVariants.{Memory, MemoryLogged}
@@ -101,6 +101,15 @@ module _ {F V E S : Type 0} (D : Ghosts F) (tells : Type 0) (bytes : S → List 
       index = w.index;
       still_open = w.open_now;
     }
+
+    -- what opening it has logged
+    pub opened_begun : (b : Bool) → IsOpened D tells bytes held vault_faults eye_faults sound h log tools kept (Ok b) → b ≡ true → HasBegun D (index_in log) h log kept.journal.log
+    opened_begun false w is = absurd (false≢true is)
+    opened_begun true w is = w.begun_is
+
+    pub opened_still : (b : Bool) → IsOpened D tells bytes held vault_faults eye_faults sound h log tools kept (Ok b) → b ≡ false → kept.journal.log ≡ log
+    opened_still false w is = w.same_log
+    opened_still true w is = absurd (false≢true (sym is))
 
     begun_begins : (o : Option Begun) → BeginsWith (begun_by o h) h
     begun_begins None = begins_with h (Begin 0 ∷ [])

@@ -1,9 +1,9 @@
 -- What an update leaves, by what its steps leave.
-use Rattle.std.proofs.Common.{◌≡◌, ◌∙◌, ℕ, Bool, true, false, List, refl, ap, subst, sym}
-use Rattle.std.specs.Prelude.{None, Some, IsTrue, Result, Ok, Err}
+use Rattle.std.proofs.Common.{◌≡◌, ◌∙◌, ℕ, Bool, false, List, refl, ap, subst, sym}
+use Rattle.std.specs.Prelude.{None, Some, Result, Ok, Err}
 use Rattle.std.proofs.lemmas.Bool.{false≢true}
 use Rattle.ann_types.specs.Judge.{judge_all}
-use Rattle.ann_types.specs.Lists.{BasedList, BeginsWith, length_of}
+use Rattle.ann_types.specs.Lists.{BasedList, BeginsWith}
 use Rattle.ann_types.specs.declared.change.Change.{Change}
 use Rattle.ann_account.specs.Steps.{StillLead}
 use Rattle.ann_disk.specs.declared.file.LogFile.{Ghosts}
@@ -23,7 +23,7 @@ use Rattle.ann_journal.specs.declared.refused.UpdateRefused.TheVariants.{Stopped
 use Rattle.ann_stock.specs.Stock.{StockView}
 use Rattle.ann_showing.specs.Showing.{Follows}
 use Rattle.ann_ledger.specs.Ledger.{IsLedgerOf}
-use Rattle.ann_index.specs.Index.{IsIndexFrom, IsIndexOf, kept_of}
+use Rattle.ann_index.specs.Index.{IsIndexOf, kept_of}
 use Rattle.ann_index.specs.Updated as mine
 use Rattle.ann_index.specs.Updated.{AreLogged, IsUpdateOf, changed}
 use Rattle.ann_index.proofs.Following.{follows_logged, follows_still}

@@ -1,5 +1,5 @@
 -- What an index is of: a list of entries, of which its view shows a part.
-use Rattle.std.specs.Prelude.{◌≡◌, ◌≢◌, ℕ, Bool, false, List, length}
+use Rattle.std.specs.Prelude.{◌≢◌, ℕ, Bool, false, List, length}
 use Rattle.ann_types.specs.Lists.{BasedList, BeginsWith}
 use Rattle.ann_disk.specs.declared.file.LogFile.{Ghosts}
 use Rattle.ann_vault.specs.Held.{Holding}

@@ -1,7 +1,11 @@
 pub mod Index
+pub mod Doubt
+pub mod Devices
 pub mod Updated
 pub mod Searched
 pub mod Refusals
 pub mod Merged
+pub mod Left
 pub mod Steps
+pub mod Stages
 pub mod Closed

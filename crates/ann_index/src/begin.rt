@@ -1,5 +1,5 @@
 // Where a merge begins, or goes on.
-ghost use Rattle.std.specs.Prelude.{◌≡◌, [], ◌∷◌, false, Bool, length, IsSome, MatchResult};
+ghost use Rattle.std.specs.Prelude.{◌≡◌, [], ◌∷◌, false, Bool, length, IsSome, IfErr, MatchResult};
 ghost use Rattle.ann_types.specs.Fold.{fold_of};
 ghost use Rattle.ann_types.specs.Lists.{BasedList};
 ghost use Rattle.ann_types.specs.declared.entry.Entry.TheVariants.{Begin};
@@ -8,6 +8,7 @@ ghost use Rattle.ann_log.specs.LogView.{files_of, held_of, IsBeforeOrAfter};
 ghost use Rattle.ann_log.specs.Told.{LeaveFiles};
 ghost use Rattle.ann_journal.specs.Journal.{index_in};
 ghost use Rattle.ann_index.specs.Index.{IsIndexOf, eye_count, kept_of};
+ghost use Rattle.ann_index.specs.Stages.{IsOut, IsUntaken};
 ghost use Rattle.ann_index.specs.Steps.{IsOpened, IsStart};
 
 use crate::refusal::MergeRefused;
@@ -44,6 +45,9 @@ fn open_shown<F: LogFile, V: Vault, E: Eye<Seal = V::Seal>>(
         (kept_of ledger.new.journal ledger.new.stock view.new) result }
     ensures same_log { IsSameLog ledger.old.journal.log ledger.new.journal.log }
     ensures stock { ledger.new.stock ≡ ledger.old.stock }
+    ensures untaken { (sound : Bool) (h : BasedList) → IsIndexOf F.LogFile V.Seal.tells V.Seal.bytes
+        V.held sound h h (kept_of ledger.old.journal ledger.old.stock view.old) →
+        IfErr result (IsUntaken F.LogFile h ledger.old.journal.log ledger.new.journal.log) }
     ensures goes_on { (sound : Bool) (h : BasedList) → IsIndexOf F.LogFile V.Seal.tells V.Seal.bytes
         V.held sound h h (kept_of ledger.old.journal ledger.old.stock view.old) →
         IsSome (fold_of (index_in ledger.old.journal.log) h).begun →
@@ -86,6 +90,11 @@ pub(crate) fn start<F: LogFile, V: Vault, E: Eye<Seal = V::Seal>>(
         V.held sound h h (kept_of ledger.old.journal ledger.old.stock view.old) →
         IsSome (fold_of (index_in ledger.old.journal.log) h).begun →
         ledger.new.journal.log ≡ ledger.old.journal.log }
+    ensures taken { MatchResult result (IsOut ledger.old.stock ledger.new.stock)
+        (λ why. ledger.new.stock ≡ ledger.old.stock) }
+    ensures untaken { (sound : Bool) (h : BasedList) → IsIndexOf F.LogFile V.Seal.tells V.Seal.bytes
+        V.held sound h h (kept_of ledger.old.journal ledger.old.stock view.old) →
+        IfErr result (IsUntaken F.LogFile h ledger.old.journal.log ledger.new.journal.log) }
     ensures eyes { MatchResult result (λ job. length job.eyes ≡ eye_count ledger.old.stock.tools)
         (λ why. ledger.new.stock ≡ ledger.old.stock) }
     ensures during { LeaveFiles F.LogFile (files_of ledger.old.journal.log) (files_of ledger.new.journal.log)

@@ -2,7 +2,9 @@
 ghost use Rattle.std.specs.Prelude.{◌≡◌, Bool, IsTrue, length};
 ghost use Rattle.ann_types.specs.Lists.{BasedList, live_of};
 ghost use Rattle.ann_journal.specs.Safe.{IsSafe};
+ghost use Rattle.ann_stock.specs.Stock.{AtHand};
 ghost use Rattle.ann_index.specs.Closed.{HasClosed};
+ghost use Rattle.ann_index.specs.Devices.{DevicesGoOn};
 ghost use Rattle.ann_index.specs.Index.{IsIndexOf};
 
 use crate::index::Index;
@@ -35,6 +37,9 @@ impl<F: LogFile, V: Vault, E: Eye<Seal = V::Seal>> Index<F, V, E> {
     pub fn close(self) -> Closed<F, V, E>
         ensures parts { HasClosed V.Seal.tells V.held V.faults self.kept
             result.vault result.eyes.items result.removed }
+        // The vault and the eyes are those that were there, and no count of theirs falls.
+        ensures devices { DevicesGoOn V.faults E.reads E.faults
+            self.kept.stock.tools (AtHand result.vault result.eyes.items) }
         ensures log { result.log ≡ self.kept.journal.log }
         ensures eye { result.eye ≡ self.eye }
         ensures live { (sound : Bool) (h shown : BasedList)

@@ -6,6 +6,7 @@ ghost use Rattle.ann_log.specs.Appended.{IsSameLog};
 ghost use Rattle.ann_log.specs.LogView.{files_of, held_of, IsBeforeOrAfter};
 ghost use Rattle.ann_log.specs.Told.{LeaveFiles};
 ghost use Rattle.ann_index.specs.Index.{eye_count, kept_of};
+ghost use Rattle.ann_index.specs.Stages.{EndsBy};
 ghost use Rattle.ann_index.specs.Steps.{IsFinish, IsUnderWay};
 
 use crate::refusal::{MergeRefused, Merged};
@@ -31,6 +32,7 @@ pub(crate) fn end_shown<F: LogFile, V: Vault, E: Eye<Seal = V::Seal>>(
         IsFinish F.LogFile V.Seal.tells V.Seal.bytes V.held V.faults E.faults sound h job.order.number
         (kept_of ledger.old.journal ledger.old.stock view.old)
         (kept_of ledger.new.journal ledger.new.stock view.new) result }
+    ensures ends { EndsBy ledger.old.stock ledger.new.stock job result }
     ensures eyes { eye_count ledger.new.stock.tools ≡ length job.eyes }
     ensures same_log { IsSameLog ledger.old.journal.log ledger.new.journal.log }
     ensures during { LeaveFiles F.LogFile (files_of ledger.old.journal.log) (files_of ledger.new.journal.log)

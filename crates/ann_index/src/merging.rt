@@ -4,9 +4,13 @@ ghost use Rattle.ann_types.specs.Lists.{BasedList};
 ghost use Rattle.ann_log.specs.Appended.{IsSameLog};
 ghost use Rattle.ann_log.specs.LogView.{files_of, held_of};
 ghost use Rattle.ann_log.specs.Told.{LeaveFiles};
+ghost use Rattle.ann_vault.specs.Counted.{CountsFault};
 ghost use Rattle.ann_journal.specs.Journal.{index_in};
+ghost use Rattle.ann_index.specs.Devices.{DevicesGoOn};
 ghost use Rattle.ann_index.specs.Index.{IsIndexOf, eye_count, kept_of};
+ghost use Rattle.ann_index.specs.Left.{LeavesBy};
 ghost use Rattle.ann_index.specs.Merged.{IsMergeOf, IsOfMerge};
+ghost use Rattle.ann_index.specs.declared.refusal.MergeRefused.TheVariants.{LogFault};
 
 use crate::begin::start;
 use crate::ending::end_shown;
@@ -50,6 +54,11 @@ where
     ensures stopped { ledger.old.journal.log.is_closed ≡ true →
         kept_of ledger.new.journal ledger.new.stock view.new
         ≡ kept_of ledger.old.journal ledger.old.stock view.old }
+    ensures devices { DevicesGoOn V.faults E.reads E.faults ledger.old.stock.tools ledger.new.stock.tools }
+    ensures left { (sound : Bool) (h shown : BasedList) → IsIndexOf F.LogFile
+        S.tells S.bytes V.held sound h shown (kept_of ledger.old.journal ledger.old.stock view.old) →
+        LeavesBy F.LogFile h ledger.old.journal.log ledger.new.journal.log
+        ledger.old.stock ledger.new.stock S.tells S.bytes V.held V.faults E.reads result }
     ensures eyes { eye_count ledger.new.stock.tools ≡ eye_count ledger.old.stock.tools }
     ensures same_log { IsSameLog ledger.old.journal.log ledger.new.journal.log }
     ensures during { (sound : Bool) (h shown : BasedList) → IsIndexOf F.LogFile
@@ -101,9 +110,20 @@ impl<F: LogFile, S: Sealed + Send + Sync, V: Vault<Seal = S>, E: Eye<Seal = S> +
             → IsMergeOf F.LogFile S.tells S.bytes V.held V.faults E.faults sound h shown
             self.old.kept.journal.log self.old.kept.stock.tools self.new.kept result }
         ensures stopped { self.old.kept.journal.log.is_closed ≡ true → self.new ≡ self.old }
+        // The vault and the eyes are those that were there, and no count of theirs falls.
+        ensures devices { DevicesGoOn V.faults E.reads E.faults
+            self.old.kept.stock.tools self.new.kept.stock.tools }
+        // A refusal takes no job, or gives it back; and where the log failed, one frame is in doubt.
+        ensures left { (sound : Bool) (h shown : BasedList)
+            → IsIndexOf F.LogFile S.tells S.bytes V.held sound h shown self.old.kept
+            → LeavesBy F.LogFile h self.old.kept.journal.log self.new.kept.journal.log
+            self.old.kept.stock self.new.kept.stock S.tells S.bytes V.held V.faults E.reads result }
         ensures eyes { eye_count self.new.kept.stock.tools ≡ eye_count self.old.kept.stock.tools }
         ensures same_log { IsSameLog self.old.kept.journal.log self.new.kept.journal.log }
         ensures rest { self.new ≡ record self.old { kept = self.new.kept } }
+        // The log's count of faults rises by one where the answer is `LogFault`, and else stays.
+        ensures cause { CountsFault (λ why. why ≡ LogFault) result
+            (F.faults self.old.kept.journal.log.log) (F.faults self.new.kept.journal.log.log) }
         // A crash at any moment leaves the list as it was, with the Begin of the merge, or with its End too.
         ensures during { (sound : Bool) (h shown : BasedList)
             → IsIndexOf F.LogFile S.tells S.bytes V.held sound h shown self.old.kept

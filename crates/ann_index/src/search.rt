@@ -2,7 +2,8 @@
 ghost use Rattle.std.specs.Prelude.{◌≡◌, ◌≢◌, Bool, length, IsErrOf, OnErr};
 ghost use Rattle.ann_types.specs.Lists.{BasedList};
 ghost use Rattle.ann_beam.specs.Found.{IsSearched};
-ghost use Rattle.ann_beam.specs.declared.refused.SearchRefused.TheVariants.{Dimension};
+ghost use Rattle.ann_beam.specs.declared.refused.SearchRefused.TheVariants.{Dimension, Disk};
+ghost use Rattle.ann_vault.specs.Counted.{CountsFault};
 ghost use Rattle.ann_view.specs.Search.{from_near, nothing_found, quest_in};
 ghost use Rattle.ann_index.specs.Index.{IsIndexOf};
 ghost use Rattle.ann_index.specs.Searched.{HasSearched, standing_of};
@@ -40,6 +41,9 @@ impl<F: LogFile, V: Vault, E: Eye<Seal = V::Seal>> Index<F, V, E> {
             IsSearched V.Seal.tells V.Seal.bytes (quest_in self.new.kept.view ask.now)
             (from_near self.new.kept.view ask.now (standing_of E.reads E.faults self.old))
             (standing_of E.reads E.faults self.new) result }
+        // The eye's count of faults rises by one where the answer is `Disk`, and else stays.
+        ensures cause { CountsFault (λ why. why ≡ Disk) result
+            (E.faults self.old.eye) (E.faults self.new.eye) }
         ensures limit { self.new.result.limit ≡ ask.now.k }
         ensures emptied { OnErr result (self.new.result ≡ nothing_found ask.now.k) }
     {

@@ -1,10 +1,13 @@
 // Updates: shown up to now, judged, logged and shown.
-ghost use Rattle.std.specs.Prelude.{◌≡◌, ◌<◌, false, Bool, length};
+ghost use Rattle.std.specs.Prelude.{◌≡◌, ◌<◌, false, Bool, length, IsErrOf};
 ghost use Rattle.ann_types.specs.Lists.{BasedList};
 ghost use Rattle.ann_log.specs.Appended.{IsSameLog};
 ghost use Rattle.ann_log.specs.LogView.{files_of, held_of, IsBeforeOrAfter};
 ghost use Rattle.ann_log.specs.Told.{LeaveFiles};
+ghost use Rattle.ann_vault.specs.Counted.{CountsFault};
 ghost use Rattle.ann_journal.specs.Updated.{entries_by};
+ghost use Rattle.ann_journal.specs.declared.refused.UpdateRefused.TheVariants.{LogFault};
+ghost use Rattle.ann_index.specs.Doubt.{IsInDoubt};
 ghost use Rattle.ann_index.specs.Index.{IsIndexOf, kept_of};
 ghost use Rattle.ann_index.specs.Updated.{IsUpdateOf};
 
@@ -74,10 +77,16 @@ impl<F: LogFile, V: Vault, E: Eye<Seal = V::Seal>> Index<F, V, E> {
         ensures same_log { IsSameLog self.old.kept.journal.log self.new.kept.journal.log }
         ensures stock { self.new.kept.stock ≡ self.old.kept.stock }
         ensures rest { self.new ≡ record self.old { kept = self.new.kept } }
+        // The log's count of faults rises by one where the answer is `LogFault`, and else stays.
+        ensures cause { CountsFault (λ why. why ≡ LogFault) result
+            (F.faults self.old.kept.journal.log.log) (F.faults self.new.kept.journal.log.log) }
         // A crash at any moment leaves the list as it was, or with all of the changes.
         ensures during { self.old.kept.journal.log.is_closed ≡ false →
             LeaveFiles F.LogFile (files_of self.old.kept.journal.log) (files_of self.new.kept.journal.log)
             (IsBeforeOrAfter (held_of self.old.kept.journal.log) (entries_by 0 changes.now)) }
+        // Where the log failed, so does one after the call.
+        ensures doubt { IsErrOf result LogFault →
+            IsInDoubt F.LogFile self.new.kept.journal.log (entries_by 0 changes.now) }
     {
         update_shown(self.alloc, &mut self.ledger, &mut self.view, changes)
     }

@@ -3,7 +3,9 @@ ghost use Rattle.std.specs.Prelude.{◌≡◌, ◌≤◌, ◌<◌, false, Bool, 
 ghost use Rattle.ann_types.specs.Lists.{BasedList};
 ghost use Rattle.ann_stock.specs.Stock.{Out};
 ghost use Rattle.ann_ledger.specs.Ledger.{IsJobOn, IsLedgerOf};
+ghost use Rattle.ann_index.specs.Devices.{JobGoesOn};
 ghost use Rattle.ann_index.specs.Index.{eye_count};
+ghost use Rattle.ann_index.specs.Stages.{IsUndone};
 ghost use Rattle.ann_index.specs.Steps.{IsWorked};
 
 use crate::refusal::MergeRefused;
@@ -40,6 +42,9 @@ where
         → IsJobOn F.LogFile S.tells S.bytes V.held sound ledger.old.journal.log h job
         → IsWorked F.LogFile S.tells S.bytes V.held V.faults E.faults sound h
         ledger.old.journal ledger.new.journal ledger.old.stock ledger.new.stock job result }
+    ensures works { MatchResult result (λ worked. JobGoesOn V.faults E.reads E.faults job worked
+        × (ledger.new.stock ≡ ledger.old.stock))
+        (IsUndone S.tells S.bytes V.faults E.reads E.faults job ledger.old.stock ledger.new.stock) }
     ensures eyes { MatchResult result (λ worked. length worked.eyes ≡ length job.eyes)
         (λ why. eye_count ledger.new.stock.tools ≡ length job.eyes) }
 {

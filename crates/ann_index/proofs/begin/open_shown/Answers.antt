@@ -6,17 +6,16 @@ use Rattle.ann_account.specs.Steps.{StillLead}
 use Rattle.ann_journal.specs.Journal.{index_in}
 use Rattle.ann_stock.specs.Stock.{StockView}
 use Rattle.ann_ledger.specs.Ledger.{IsLedgerOf}
-use Rattle.ann_ledger.specs.Merging as ledger
 use Rattle.ann_ledger.specs.Merging.{IsOpening, list_behind}
 use Rattle.ann_ledger.specs.declared.refused.Unopened.{Unopened}
 use Rattle.ann_ledger.specs.declared.refused.Unopened.TheVariants as opening
 use Rattle.ann_index.specs.Index.{IsIndexOf, kept_of}
 use Rattle.ann_index.specs.Steps.{IsOpened}
-use Rattle.ann_index.specs.declared.refusal.MergeRefused.{MergeRefused}
 use Rattle.ann_index.specs.declared.refusal.MergeRefused.TheVariants.{Nothing, Memory, LogFault, MemoryLogged}
 use Rattle.ann_index.proofs.Shown.{index_all, index_from}
 use Rattle.ann_index.proofs.Updating.{same_log_by, same_log_then}
-use Rattle.ann_index.proofs.Beginning.{failing, idle, index_begun, open_keeps, opened, opens_log, unshown, wanting, was_open}
+use Rattle.ann_index.proofs.Doubts.{doubt_after}
+use Rattle.ann_index.proofs.Beginning.{failing, has_begun, idle, index_begun, open_keeps, opened, opens_log, unshown, wanting, was_open}
 use Rattle.ann_index.proofs.begin.open_shown.Goals as goal
 
 pub show_all-requires : goal.show_all-requires
@@ -164,3 +163,27 @@ returns-in-Err-Memory-clause-goes_on g c sound h is some =
 pub returns-in-Err-LogFault-clause-goes_on : goal.returns-in-Err-LogFault-clause-goes_on
 returns-in-Err-LogFault-clause-goes_on g c sound h is some =
     open_keeps g.F.LogFile h 0 c.args.ledger.now.journal c.open_merge.new.self.journal some c.open_merge.result (c.open_merge.ensures.opened sound h is.follows.journal_is is.follows.shows)
+
+pub returns-in-Err-clause-untaken : goal.returns-in-Err-clause-untaken
+returns-in-Err-clause-untaken g c sound h is =
+    let r : c.open_merge.result ≡ Ok true = c.in-Ok-true.is ∙ ap Ok c.in-Ok-true.field-0-test in
+    let w = subst (λ (r : Result Bool Unopened). IsOpening g.F.LogFile h 0 c.args.ledger.now.journal c.open_merge.new.self.journal r) r (c.open_merge.ensures.opened sound h is.follows.journal_is is.follows.shows) in
+    let l : IsLedgerOf g.F.LogFile g.V.Seal.Sealed.tells g.V.Seal.Sealed.bytes g.V.Vault.held sound (with_entry h (Begin 0)) c.open_merge.new.self.journal c.args.ledger.now.stock =
+    subst (λ (s : StockView _ _ _). IsLedgerOf g.F.LogFile g.V.Seal.Sealed.tells g.V.Seal.Sealed.bytes g.V.Vault.held sound (with_entry h (Begin 0)) c.open_merge.new.self.journal s) c.open_merge.ensures.stock
+    (subst (λ (r : Result Bool Unopened). IsLedgerOf g.F.LogFile g.V.Seal.Sealed.tells g.V.Seal.Sealed.bytes g.V.Vault.held sound (list_behind h 0 r) c.open_merge.new.self.journal c.open_merge.new.self.stock) r (c.open_merge.ensures.ledger sound h is.ledger is.follows.shows)) in
+    let b : StillLead g.V.Seal.Sealed.bytes (index_in c.args.ledger.now.journal.log) h (Begin 0 ∷ []) c.args.ledger.now.journal.account c.open_merge.new.self.journal.account = c.open_merge.ensures.brings sound h is.follows.journal_is is.follows.shows r in
+    has_begun g.F.LogFile g.V.Seal.Sealed.tells g.V.Seal.Sealed.bytes g.V.Vault.held g.V.Vault.faults g.E.Eye.faults sound h c.args.ledger.now.journal c.open_merge.new.self.journal c.args.ledger.now.stock c.args.ledger.now.stock.tools c.args.view.now c.requires.open is w b l c.show_all.new.journal c.show_all.new.view c.show_all.ensures.some.log
+
+pub returns-in-Err-Memory-clause-untaken : goal.returns-in-Err-Memory-clause-untaken
+returns-in-Err-Memory-clause-untaken g c sound h is =
+    let r : c.open_merge.result ≡ Err opening.Memory = c.in-Err-Memory.is ∙ ap Err c.in-Err-Memory.field-0-is in
+    let w = subst (λ (r : Result Bool Unopened). IsOpening g.F.LogFile h 0 c.args.ledger.now.journal c.open_merge.new.self.journal r) r (c.open_merge.ensures.opened sound h is.follows.journal_is is.follows.shows) in
+    w.untouched.log
+
+pub returns-in-Err-LogFault-clause-untaken : goal.returns-in-Err-LogFault-clause-untaken
+returns-in-Err-LogFault-clause-untaken g c sound h is =
+    let r : c.open_merge.result ≡ Err opening.LogFault = c.in-Err-LogFault.is ∙ ap Err c.in-Err-LogFault.field-0-is in
+    let w = subst (λ (r : Result Bool Unopened). IsOpening g.F.LogFile h 0 c.args.ledger.now.journal c.open_merge.new.self.journal r) r (c.open_merge.ensures.opened sound h is.follows.journal_is is.follows.shows) in (
+      record { may = record { none = w.may.none; work = w.may.work }; unlogged = w.unlogged.log },
+      doubt_after g.F.LogFile c.args.ledger.now.journal.log c.open_merge.new.self.journal.log (Begin 0 ∷ []) w.unlogged.log c.open_merge.ensures.during,
+    )

@@ -1,8 +1,8 @@
-use Rattle.std.proofs.Common.{◌≡◌, ◌∙◌, [], ◌∷◌, Bool, true, false, ap, refl, subst, sym}
-use Rattle.std.specs.Prelude.{IsSome, Result, Ok, Err, None}
+use Rattle.std.proofs.Common.{◌≡◌, ◌∙◌, [], ◌∷◌, Bool, ap, refl, subst, sym}
+use Rattle.std.specs.Prelude.{IsSome, IfErr, Result, Ok, Err, None}
 use Rattle.std.proofs.lemmas.Result.{err_from_is_err_and}
 use Rattle.ann_types.specs.Fold.{fold_of}
-use Rattle.ann_types.specs.Lists.{BasedList, with_entry}
+use Rattle.ann_types.specs.Lists.{BasedList}
 use Rattle.ann_types.specs.declared.entry.Entry.TheVariants.{Begin}
 use Rattle.ann_log.specs.LogView.{LogView, files_of, held_of, IsBeforeOrAfter}
 use Rattle.ann_log.specs.Pairs.{EachPair, LeavePairs}
@@ -14,10 +14,11 @@ use Rattle.ann_stock.specs.Stock.{StockView, ToolsView, GivenBack, Out, given_in
 use Rattle.ann_ledger.specs.Ledger.{AreToolsFor, IsLedgerOf}
 use Rattle.ann_index.specs.Index.{IsIndexOf, kept_of}
 use Rattle.ann_index.specs.Merged.{IsRefused, begun}
+use Rattle.ann_index.specs.Stages.{IsUntaken}
 use Rattle.ann_index.specs.Steps.{HasStarted, IsOpened, IsStart}
 use Rattle.ann_index.specs.declared.refusal.MergeRefused.{MergeRefused}
 use Rattle.ann_index.specs.declared.refusal.MergeRefused.TheVariants.{Memory, MemoryLogged}
-use Rattle.ann_index.proofs.Starting.{IsOpen, given_is, none_given, open_of, started, started_again, untaken, untaken_logged}
+use Rattle.ann_index.proofs.Starting.{IsOpen, given_is, none_given, open_of, opened_begun, opened_still, started, started_again, untaken, untaken_logged}
 use Rattle.ann_index.proofs.begin.start.Goals as goal
 use Rattle.ann_index.proofs.begin.start.Goals.{then-logged, else-logged}
 
@@ -139,3 +140,33 @@ returns-after-logged-clause-goes_on g c sound h is some =
     (subst (λ (s : StockView _ _ _). IsIndexOf g.F.LogFile g.V.Seal.Sealed.tells g.V.Seal.Sealed.bytes g.V.Vault.held sound h h (kept_of c.args.ledger.now.journal s c.args.view.now)) (sym stock) is) in
     let was : IsSome (fold_of (index_in c.take_again.new.self.journal.log) h).begun = subst (λ (x : JournalView _ _). IsSome (fold_of (index_in x.log) h).begun) (sym c.take_again.ensures.journal) some in
     ap (λ (x : JournalView _ _). x.log) c.take.ensures.journal ∙ c.open_shown.ensures.goes_on sound h here was ∙ ap (λ (x : JournalView _ _). x.log) c.take_again.ensures.journal
+
+pub returns-in_err-logged-clause-untaken : goal.returns-in_err-logged-clause-untaken
+returns-in_err-logged-clause-untaken g c sound h is =
+    let none : given_in c.args.ledger.now.stock.tools ≡ None = sym c.take_again.ensures.job ∙ c.in_default.is in
+    let stock : c.take_again.new.self.stock ≡ c.args.ledger.now.stock = c.take_again.ensures.stock ∙ ap (λ (t : ToolsView _ _ _). record c.args.ledger.now.stock { tools = t }) (none_given c.args.ledger.now.stock.tools none) in
+    let here : IsIndexOf g.F.LogFile g.V.Seal.Sealed.tells g.V.Seal.Sealed.bytes g.V.Vault.held sound h h (kept_of c.take_again.new.self.journal c.take_again.new.self.stock c.args.view.now) =
+    subst (λ (x : JournalView _ _). IsIndexOf g.F.LogFile g.V.Seal.Sealed.tells g.V.Seal.Sealed.bytes g.V.Vault.held sound h h (kept_of x c.take_again.new.self.stock c.args.view.now)) (sym c.take_again.ensures.journal)
+    (subst (λ (s : StockView _ _ _). IsIndexOf g.F.LogFile g.V.Seal.Sealed.tells g.V.Seal.Sealed.bytes g.V.Vault.held sound h h (kept_of c.args.ledger.now.journal s c.args.view.now)) (sym stock) is) in
+    let p = err_from_is_err_and c.from_residual.result c.from_residual.ensures.1 in
+    subst (λ (r : Result (JobView _ _ _) MergeRefused). IfErr r (IsUntaken g.F.LogFile h c.args.ledger.now.journal.log c.open_shown.new.ledger.journal.log)) (sym (p.1 ∙ ap Err p.2))
+    (subst (λ (x : JournalView _ _). IsUntaken g.F.LogFile h x.log c.open_shown.new.ledger.journal.log c.in_err-logged.field-0.0) c.take_again.ensures.journal (c.in_err-logged.ensures.untaken sound h here))
+
+pub returns-after-logged-clause-untaken : goal.returns-after-logged-clause-untaken
+returns-after-logged-clause-untaken g c sound h is =
+    let none : given_in c.args.ledger.now.stock.tools ≡ None = sym c.take_again.ensures.job ∙ c.in_default.is in
+    let stock : c.take_again.new.self.stock ≡ c.args.ledger.now.stock = c.take_again.ensures.stock ∙ ap (λ (t : ToolsView _ _ _). record c.args.ledger.now.stock { tools = t }) (none_given c.args.ledger.now.stock.tools none) in
+    let here : IsIndexOf g.F.LogFile g.V.Seal.Sealed.tells g.V.Seal.Sealed.bytes g.V.Vault.held sound h h (kept_of c.take_again.new.self.journal c.take_again.new.self.stock c.args.view.now) =
+    subst (λ (x : JournalView _ _). IsIndexOf g.F.LogFile g.V.Seal.Sealed.tells g.V.Seal.Sealed.bytes g.V.Vault.held sound h h (kept_of x c.take_again.new.self.stock c.args.view.now)) (sym c.take_again.ensures.journal)
+    (subst (λ (s : StockView _ _ _). IsIndexOf g.F.LogFile g.V.Seal.Sealed.tells g.V.Seal.Sealed.bytes g.V.Vault.held sound h h (kept_of c.args.ledger.now.journal s c.args.view.now)) (sym stock) is) in
+    let was : IsOpened g.F.LogFile g.V.Seal.Sealed.tells g.V.Seal.Sealed.bytes g.V.Vault.held g.V.Vault.faults g.E.Eye.faults sound h c.args.ledger.now.journal.log c.args.ledger.now.stock.tools (kept_of c.open_shown.new.ledger.journal c.open_shown.new.ledger.stock c.open_shown.new.view) (Ok c.in_ok-logged.logged) =
+    subst (λ (s : StockView _ _ _). IsOpened g.F.LogFile g.V.Seal.Sealed.tells g.V.Seal.Sealed.bytes g.V.Vault.held g.V.Vault.faults g.E.Eye.faults sound h c.args.ledger.now.journal.log s.tools (kept_of c.open_shown.new.ledger.journal c.open_shown.new.ledger.stock c.open_shown.new.view) (Ok c.in_ok-logged.logged)) stock
+    (subst (λ (x : JournalView _ _). IsOpened g.F.LogFile g.V.Seal.Sealed.tells g.V.Seal.Sealed.bytes g.V.Vault.held g.V.Vault.faults g.E.Eye.faults sound h x.log c.take_again.new.self.stock.tools (kept_of c.open_shown.new.ledger.journal c.open_shown.new.ledger.stock c.open_shown.new.view) (Ok c.in_ok-logged.logged)) c.take_again.ensures.journal (c.in_ok-logged.ensures.opened sound h here)) in
+    elim c.if-logged.branch [
+      | then-logged w ↦ subst (λ (e : MergeRefused). IsUntaken g.F.LogFile h c.args.ledger.now.journal.log c.take.new.self.journal.log e) (sym w.result-is)
+          (subst (λ (x : JournalView _ _). IsUntaken g.F.LogFile h c.args.ledger.now.journal.log x.log (MemoryLogged w.receipt.result)) (sym c.take.ensures.journal)
+          (opened_begun g.F.LogFile g.V.Seal.Sealed.tells g.V.Seal.Sealed.bytes g.V.Vault.held g.V.Vault.faults g.E.Eye.faults sound h c.args.ledger.now.journal.log c.args.ledger.now.stock.tools c.requires.open (kept_of c.open_shown.new.ledger.journal c.open_shown.new.ledger.stock c.open_shown.new.view) c.in_ok-logged.logged was w.if-logged.true))
+      | else-logged w ↦ subst (λ (e : MergeRefused). IsUntaken g.F.LogFile h c.args.ledger.now.journal.log c.take.new.self.journal.log e) (sym w.result-is)
+          (subst (λ (x : JournalView _ _). IsUntaken g.F.LogFile h c.args.ledger.now.journal.log x.log Memory) (sym c.take.ensures.journal)
+          (opened_still g.F.LogFile g.V.Seal.Sealed.tells g.V.Seal.Sealed.bytes g.V.Vault.held g.V.Vault.faults g.E.Eye.faults sound h c.args.ledger.now.journal.log c.args.ledger.now.stock.tools c.requires.open (kept_of c.open_shown.new.ledger.journal c.open_shown.new.ledger.stock c.open_shown.new.view) c.in_ok-logged.logged was w.if-logged.false))
+    ]

@@ -1,19 +1,21 @@
-use Rattle.std.proofs.Common.{◌≡◌, ◌∙◌, [], ◌∷◌, Bool, ap, refl, subst, sym}
-use Rattle.std.specs.Prelude.{Err, IsTrue}
+use Rattle.std.proofs.Common.{◌≡◌, ◌∙◌, Bool, ap, refl, subst, sym}
+use Rattle.std.specs.Prelude.{Err}
 use Rattle.ann_types.specs.Lists.{BasedList, with_entry}
 use Rattle.ann_types.specs.declared.entry.Entry.TheVariants.{End}
 use Rattle.ann_log.specs.Appended.{IsSameLog}
 use Rattle.ann_merge.specs.Job.{JobView}
 use Rattle.ann_journal.specs.Journal.{JournalView}
 use Rattle.ann_stock.specs.Stock.{StockView, ToolsView, GivenBack}
-use Rattle.ann_ledger.specs.Ledger.{IsJobOn, IsLedgerOf}
+use Rattle.ann_ledger.specs.Ledger.{IsLedgerOf}
 use Rattle.ann_ledger.specs.Merging as ledger
 use Rattle.ann_index.specs.Index.{IsIndexOf, eye_count, kept_of}
 use Rattle.ann_index.specs.Refusals.{of_finish}
-use Rattle.ann_index.specs.Steps.{IsFinish, IsUnderWay}
+use Rattle.ann_index.specs.Stages.{EndsBy}
+use Rattle.ann_index.specs.Steps.{IsFinish}
 use Rattle.ann_index.specs.declared.refusal.MergeRefused.{MergeRefused}
 use Rattle.ann_index.proofs.Shown.{index_all, index_from}
 use Rattle.ann_index.proofs.Updating.{same_log_by, same_log_then}
+use Rattle.ann_index.proofs.Stages.{ends_by}
 use Rattle.ann_index.proofs.Ends.{finished, index_ended, refuses_log, tools_kept, unfinished, unshown}
 use Rattle.ann_index.proofs.ending.end_shown.Goals as goal
 
@@ -103,3 +105,24 @@ returns-in-Err-clause-same_log g c =
     let w : ledger.IsUnfinished g.F.LogFile h 0 c.args.job c.args.ledger.now.journal c.finish.new.self.journal c.args.ledger.now.stock c.finish.new.self.stock c.in-Err.refused.why = c.in-Err.ensures.finished sound h u.ledger u.job_is in
     subst (λ (x : JournalView _ _). IsSameLog c.args.ledger.now.journal.log x.log) (sym c.give_back.ensures.journal)
     (refuses_log g.F.LogFile h c.args.job c.args.ledger.now.journal c.finish.new.self.journal c.args.ledger.now.stock c.finish.new.self.stock c.in-Err.refused.why w)
+
+pub returns-in-Ok-show_all-clause-ends : goal.returns-in-Ok-show_all-clause-ends
+returns-in-Ok-show_all-clause-ends g c =
+    let u = c.requires.list.2 in
+    let w : ledger.HasFinished g.F.LogFile c.requires.list.1 0 c.args.job c.args.ledger.now.journal c.finish.new.self.journal c.args.ledger.now.stock c.finish.new.self.stock c.in-Ok.receipt = c.in-Ok.ensures.finished c.requires.list.0 c.requires.list.1 u.ledger u.job_is in
+    record { at_hand = w.tools; retired = w.retired }
+
+pub returns-in-Err-show_all-clause-ends : goal.returns-in-Err-show_all-clause-ends
+returns-in-Err-show_all-clause-ends g c =
+    let u = c.requires.list.2 in
+    let w : ledger.HasFinished g.F.LogFile c.requires.list.1 0 c.args.job c.args.ledger.now.journal c.finish.new.self.journal c.args.ledger.now.stock c.finish.new.self.stock c.in-Ok.receipt = c.in-Ok.ensures.finished c.requires.list.0 c.requires.list.1 u.ledger u.job_is in
+    record { at_hand = w.tools; retired = w.retired }
+
+pub returns-in-Err-clause-ends : goal.returns-in-Err-clause-ends
+returns-in-Err-clause-ends g c =
+    let u = c.requires.list.2 in
+    let given : c.give_back.new.self.stock ≡ record c.finish.new.self.stock { tools = GivenBack c.args.job } =
+    c.give_back.ensures.stock ∙ ap (λ (x : JobView _ _ _). record c.finish.new.self.stock { tools = GivenBack x }) c.in-Err.ensures.job in
+    subst (λ (e : MergeRefused). EndsBy c.args.ledger.now.stock c.give_back.new.self.stock c.args.job (Err e)) (sym c.from.ensures)
+    (ends_by g.F.LogFile c.requires.list.1 c.args.job c.args.ledger.now.journal c.finish.new.self.journal c.args.ledger.now.stock c.finish.new.self.stock c.give_back.new.self.stock c.requires.open given c.in-Err.refused.why
+    (c.in-Err.ensures.finished c.requires.list.0 c.requires.list.1 u.ledger u.job_is))

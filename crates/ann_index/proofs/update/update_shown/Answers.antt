@@ -2,13 +2,10 @@ use Rattle.std.proofs.Common.{◌≡◌, ◌∙◌, Bool, false, ap, subst, sym}
 use Rattle.std.specs.Prelude.{Result, Err}
 use Rattle.std.proofs.lemmas.Result.{err_from_is_err_and}
 use Rattle.ann_types.specs.Lists.{BasedList, BeginsWith}
-use Rattle.ann_account.specs.Steps.{StillLead}
-use Rattle.ann_log.specs.Appended.{IsSameLog}
 use Rattle.ann_log.specs.LogView.{LogView, files_of, held_of, IsBeforeOrAfter}
 use Rattle.ann_log.specs.Pairs.{EachPair, LeavePairs}
 use Rattle.ann_log.specs.Text.{StandsFor}
-use Rattle.ann_journal.specs.Journal.{index_in}
-use Rattle.ann_journal.specs.Updated.{IsUpdate, entries_by}
+use Rattle.ann_journal.specs.Updated.{entries_by}
 use Rattle.ann_journal.specs.declared.refused.Receipt.{Receipt}
 use Rattle.ann_journal.specs.declared.refused.UpdateRefused.{UpdateRefused}
 use Rattle.ann_journal.proofs.Frames.{idle_log}

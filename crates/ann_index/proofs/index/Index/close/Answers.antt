@@ -1,13 +1,15 @@
-use Rattle.std.proofs.Common.{◌≡◌, [], length, subst, sym, ◌∙◌}
+use Rattle.std.proofs.Common.{[], subst, sym}
 use Rattle.ann_types.specs.Legal.{IsLegal}
-use Rattle.ann_types.specs.Lists.{with_entries}
 use Rattle.ann_account.specs.Account.{AccountView}
 use Rattle.ann_account.specs.Steps.{CanNote}
 use Rattle.ann_log.specs.LogView.{LogView}
 use Rattle.ann_journal.specs.Journal.{index_in}
 use Rattle.ann_journal.specs.Safe.{IsSafe}
+use Rattle.ann_stock.specs.Stock.{AtHand}
 use Rattle.ann_index.specs.Closed.{HasClosed}
+use Rattle.ann_index.specs.Devices.{DevicesGoOn}
 use Rattle.ann_index.specs.Index.{HolderView, IsIndexOf, kept_of}
+use Rattle.ann_index.proofs.Devices.{devices_closed}
 use Rattle.ann_index.proofs.Closing.{has_closed, safe_out}
 use Rattle.ann_index.proofs.Shown.{without_more}
 use Rattle.ann_index.proofs.index.Index.close.Goals as goal
@@ -16,6 +18,12 @@ pub returns-clause-parts : goal.returns-clause-parts
 returns-clause-parts g c =
     subst (λ (i : HolderView _ _ _ _). HasClosed g.V.Seal.Sealed.tells g.V.Vault.held g.V.Vault.faults i.kept c.in-Some.parts.vault c.in-Some.parts.eyes.items c.clear-removed.result) c.self.view_is
     (has_closed g.V.Seal.Sealed.tells g.V.Vault.held g.V.Vault.faults c.in-Some.parts.vault c.in-Some.parts.eyes.items c.clear-removed.result (kept_of c.self.inside.ledger.journal c.self.inside.ledger.stock c.self.inside.view) c.clear-removed.new.self.stock c.clear-removed.ensures.cleared c.in-Some.ensures)
+
+pub returns-clause-devices : goal.returns-clause-devices
+returns-clause-devices g c =
+    subst (λ (i : HolderView _ _ _ _). DevicesGoOn g.V.Vault.faults g.E.Eye.reads g.E.Eye.faults i.kept.stock.tools (AtHand c.in-Some.parts.vault c.in-Some.parts.eyes.items)) c.self.view_is
+    (devices_closed g.V.Vault.faults g.E.Eye.reads g.E.Eye.faults g.V.Seal.Sealed.tells g.V.Vault.held (kept_of c.self.inside.ledger.journal c.self.inside.ledger.stock c.self.inside.view) c.in-Some.parts.vault c.in-Some.parts.eyes.items c.clear-removed.result
+    (has_closed g.V.Seal.Sealed.tells g.V.Vault.held g.V.Vault.faults c.in-Some.parts.vault c.in-Some.parts.eyes.items c.clear-removed.result (kept_of c.self.inside.ledger.journal c.self.inside.ledger.stock c.self.inside.view) c.clear-removed.new.self.stock c.clear-removed.ensures.cleared c.in-Some.ensures))
 
 pub returns-clause-live : goal.returns-clause-live
 returns-clause-live g c sound h shown was =
