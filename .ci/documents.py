@@ -56,14 +56,16 @@ def imports(text):
 def definitions(text):
     """The definitions of a file of specs/ or proofs/: name -> its whole text. What stands in a `module .. where` has that
     line in its text too, a constructor leads to its `data`, and a name that is given on to where it comes from."""
-    parts, name, module, is_data = collections.defaultdict(str), None, "", False
+    parts, name, modules, is_data = collections.defaultdict(str), None, [], False
     for line in text.split("\n"):
         if not line.strip() or line.lstrip().startswith("--"):
             continue
-        if not line[0].isspace():
-            module = line + "\n" if line.startswith("module ") else ""
-        elif module:
-            line = line.removeprefix("  ")
+        # The body of a module lies two blanks further in than its line.
+        level = (len(line) - len(line.lstrip())) // 2
+        del modules[level:]
+        line = line.removeprefix("  " * len(modules))
+        if line.startswith("module "):
+            modules.append(line + "\n")
         if line.startswith("pub use "):
             for again in re.findall(r"[^\s{},]+", line.partition("{")[2]):
                 parts[again] += line + "\n"
@@ -74,7 +76,7 @@ def definitions(text):
             start = HEAD.match(line)
             if start:
                 name, is_data = start.group(2), "data " in start.group(1)
-                parts[name] += module if name not in parts else ""
+                parts[name] += "".join(modules) if name not in parts else ""
         if name:
             parts[name] += line + "\n"
             constructor = re.match(r"\s+(\S+) :", line)
