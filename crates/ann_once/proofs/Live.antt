@@ -15,7 +15,8 @@ use Rattle.ann_script.specs.Script.{Client}
 use Rattle.ann_transcript.specs.declared.reply.Reply.TheVariants.{Found, Search}
 use Rattle.ann_transcript.specs.declared.reply.SearchWord.TheVariants.{Dimension}
 use Rattle.ann_once.specs.Live.{TellsLive, AllTellLive, ScriptTellsLive}
-use Rattle.ann_once.specs.Once.{accepted, update_reply, search_reply, reply_to, updated, list_after}
+use Rattle.ann_reply.specs.Reply.{accepted}
+use Rattle.ann_once.specs.Once.{update_reply, search_reply, reply_to, updated, list_after}
 use Rattle.ann_once.proofs.Sessions.{session_base}
 
 -- a legal list on the empty base

@@ -1,23 +1,18 @@
 -- What the command `once` writes for a script.
-use Rattle.std.specs.Prelude.{◌≡◌, ℕ, ◌+◌, Bool, List, [], ◌∷◌, ◌++◌, ◌==◌, Option, None, Some, length, if◌then◌else◌}
+use Rattle.std.specs.Prelude.{ℕ, ◌+◌, Bool, List, [], ◌∷◌, ◌++◌, ◌==◌, Option, None, Some, length, if◌then◌else◌}
 use Rattle.ann_types.specs.Index.{Index}
 use Rattle.ann_types.specs.Lists.{BasedList, empty_list, length_of, live_of}
 use Rattle.ann_types.specs.Fold.{fold_of}
 use Rattle.ann_types.specs.Answer.{hits}
-use Rattle.ann_types.specs.Judge.{Refusal, Dimension, Full, Present, Absent, judge_all}
+use Rattle.ann_types.specs.Judge.{Refusal, judge_all}
 use Rattle.ann_types.specs.declared.params.Params.{Params}
 use Rattle.ann_types.specs.declared.change.Change.{Change}
-use Rattle.ann_types.specs.declared.change.Change.TheVariants as change
-use Rattle.ann_judge.specs.Standing.{behind, tag_of, refusal_of}
-use Rattle.ann_judge.specs.declared.refusal.Refusal.{Refusal as CodeRefusal}
+use Rattle.ann_judge.specs.Standing.{behind}
 use Rattle.ann_script.specs.Order.{Order, Apply, Find, Merge, Fill}
 use Rattle.ann_script.specs.Script.{Client}
 use Rattle.ann_transcript.specs.Transcript.{line_text, last_text}
+use Rattle.ann_reply.specs.Reply.{accepted, word_of}
 use Rattle.ann_once.specs.Book.{zeros}
-use Rattle.ann_transcript.specs.declared.reply.Kind.{Kind}
-use Rattle.ann_transcript.specs.declared.reply.Kind.TheVariants as kind
-use Rattle.ann_transcript.specs.declared.reply.UpdateWord.{UpdateWord}
-use Rattle.ann_transcript.specs.declared.reply.UpdateWord.TheVariants as update
 use Rattle.ann_transcript.specs.declared.reply.SearchWord.TheVariants as search_word
 use Rattle.ann_transcript.specs.declared.reply.MergeWord.TheVariants as merge
 use Rattle.ann_transcript.specs.declared.reply.Reply.{Reply}
@@ -28,27 +23,6 @@ abbrev pub once_index : Params → Index
 once_index params = record { params = params; book = zeros params.d }
 
 -- ---- The reply to a command, after a list of entries
-
-abbrev pub kind_of : Change → Kind
-kind_of (change.Insert tag vector) = kind.Insert
-kind_of (change.Delete tag) = kind.Delete
-kind_of (change.Replace tag vector) = kind.Replace
-
--- an update was accepted, and the list is then so long
-abbrev pub accepted : List Change → Bool → ℕ → Reply
-accepted [] batch at = reply.Accepted kind.Batch 0 0 at
-accepted (c ∷ cs) batch at = reply.Accepted (if batch then kind.Batch else kind_of c) (tag_of c) (length (c ∷ cs)) at
-
--- the word of a refusal, of the change with this index
-abbrev pub word_of : ℕ → Refusal → ℕ → UpdateWord
-word_of index (Dimension got want) at = update.Dimension index got want at
-word_of index Full at = update.Full index at
-word_of index (Present tag) at = update.Present index tag at
-word_of index (Absent tag) at = update.Absent index tag at
-
--- the word of a refusal as code has it
-abbrev pub IsWordOf : ℕ → CodeRefusal → ℕ → UpdateWord → Type 0
-IsWordOf index refusal at word = (of : Refusal) → refusal ≡ refusal_of of → word ≡ word_of index of at
 
 -- an update is judged as a whole: its first refusal, or it is accepted
 abbrev pub update_reply : List Change → Bool → ℕ → Option (ℕ × Refusal) → Reply

@@ -1,17 +1,17 @@
 ghost use Rattle.std.specs.Prelude.{◌≡◌, ◌≤◌, ◌<◌, ◌+◌, ◌-◌, ◌^◌, length, IfOk, OnOk};
 ghost use Rattle.ann_types.specs.Lists.{BasedList, live_of, empty_list};
 ghost use Rattle.ann_types.specs.declared.change.Change.TheVariants.{Insert, Delete, Replace};
-ghost use Rattle.ann_judge.specs.Standing.{KnowsOf, tag_of as tag_in};
+ghost use Rattle.ann_judge.specs.Standing.{KnowsOf};
 ghost use Rattle.ann_script.specs.Order.{Apply, Find};
-ghost use Rattle.ann_once.specs.Once.{IsWordOf, accepted as accepted_reply, kind_of as kind_in};
 ghost use Rattle.ann_once.specs.Session.{Keeps, Accepts, AcceptsAll, Makes, MakesAll, Replies, Follows};
 
 use crate::book::zero_book;
 use ann_beam::{Desk, SearchRefused};
-use ann_judge::{Refusal, Standing};
-use ann_script::{HitList, Kind, Reply, SearchWord, UpdateWord};
+use ann_judge::Standing;
+use ann_reply::{accepted, copied, word_of};
+use ann_script::{Reply, SearchWord};
 use ann_tags::Tags;
-use ann_types::{Ask, Change, Hit, Params, Tag, Vector};
+use ann_types::{Ask, Change, Params, Tag, Vector};
 use ann_vault::MemorySeal;
 use ann_view::{Op, View};
 use std::alloc::{AllocError, Global};
@@ -27,78 +27,6 @@ pub(crate) struct Session {
     view: View<MemorySeal>,
     tags: Tags,
     desk: Desk,
-}
-
-/// What kind of update a change is by itself.
-fn kind_of(change: &Change) -> Kind
-    ensures { result ≡ kind_in change.now }
-{
-    match change {
-        Change::Insert { .. } => Kind::Insert,
-        Change::Delete { .. } => Kind::Delete,
-        Change::Replace { .. } => Kind::Replace,
-    }
-}
-
-/// The tag of which a change speaks.
-fn tag_of(change: &Change) -> Tag
-    ensures { result ≡ tag_in change.now }
-{
-    match change {
-        Change::Insert { tag, vector: _ } => *tag,
-        Change::Delete { tag } => *tag,
-        Change::Replace { tag, vector: _ } => *tag,
-    }
-}
-
-/// The word of a refusal, where the list has this length.
-fn word_of(index: u32, refusal: Refusal, at: u64) -> UpdateWord
-    ensures { IsWordOf index refusal at result }
-{
-    match refusal {
-        Refusal::Dimension { got, want } => UpdateWord::Dimension {
-            index,
-            got,
-            want,
-            at,
-        },
-        Refusal::Full => UpdateWord::Full { index, at },
-        Refusal::Present { tag } => UpdateWord::Present { index, tag, at },
-        Refusal::Absent { tag } => UpdateWord::Absent { index, tag, at },
-    }
-}
-
-/// The reply to an update that was accepted, behind which the list has this length.
-fn accepted(changes: &[Change], batch: bool, at: u64) -> Reply
-    requires { length changes.now ≤ 64 }
-    ensures { result ≡ accepted_reply changes.now batch at }
-{
-    let count = changes.len() as u32;
-    match changes {
-        [] => Reply::Accepted {
-            kind: Kind::Batch,
-            tag: 0,
-            count,
-            at,
-        },
-        [first, ..] => Reply::Accepted {
-            kind: if batch { Kind::Batch } else { kind_of(first) },
-            tag: tag_of(first),
-            count,
-            at,
-        },
-    }
-}
-
-/// A list of its own of these hits.
-fn copied(alloc: Global, hits: &[Hit]) -> Result<HitList, AllocError>
-    ensures { IfOk result (λ list. list ≡ hits.now) }
-{
-    let mut list = HitList::new(alloc);
-    for hit in hits {
-        list.push(*hit)?;
-    }
-    Ok(list)
 }
 
 impl Session {

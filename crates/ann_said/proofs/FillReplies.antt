@@ -14,7 +14,7 @@ use Rattle.ann_script.proofs.Generating.{length-inserts}
 use Rattle.ann_transcript.specs.declared.reply.UpdateWord.{UpdateWord}
 use Rattle.ann_transcript.specs.declared.reply.UpdateWord.TheVariants.{Stopped, MemoryLogged}
 use Rattle.ann_transcript.specs.declared.reply.Reply.TheVariants.{Filled, Cut}
-use Rattle.ann_once.specs.Once.{word_of}
+use Rattle.ann_reply.specs.Reply.{word_of}
 use Rattle.ann_said.specs.Owned.{Placed, placed_from, entries_of, own, past, reach, StandTogether}
 use Rattle.ann_said.specs.Seen.{refusal_seen}
 use Rattle.ann_said.specs.Table.{Turn, behind_first, AreFirst, AreRefused, AreFilled, AreCut}

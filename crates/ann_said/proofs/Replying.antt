@@ -14,7 +14,7 @@ use Rattle.ann_transcript.specs.declared.reply.UpdateWord.{UpdateWord}
 use Rattle.ann_transcript.specs.declared.reply.UpdateWord.TheVariants.{Dimension as Dimension', Full as Full', Present as Present', Absent as Absent', LogFault, Stopped, Memory, MemoryLogged}
 use Rattle.ann_transcript.specs.declared.reply.Reply.{Reply}
 use Rattle.ann_transcript.specs.declared.reply.Reply.TheVariants.{Update, Found}
-use Rattle.ann_once.specs.Once.{accepted, word_of}
+use Rattle.ann_reply.specs.Reply.{accepted, word_of}
 use Rattle.ann_said.specs.Owned.{Placed, placed_from, own, reach}
 use Rattle.ann_said.specs.Seen.{refusal_seen, line_seen}
 use Rattle.ann_said.specs.Table.{Turn, IsBetween, AreAccepted, AreJudged, AreRefused, IsFound, Stands}

@@ -20,7 +20,8 @@ use Rattle.ann_script.specs.declared.verbs.Verbs.TheVariants.{Once}
 use Rattle.ann_transcript.specs.Transcript.{line_text, last_text}
 use Rattle.ann_transcript.specs.declared.reply.SearchWord.TheVariants.{Dimension}
 use Rattle.ann_transcript.specs.declared.reply.Reply.TheVariants.{Update, Found, Search}
-use Rattle.ann_once.specs.Once.{accepted, word_of, update_reply, search_reply, reply_to, updated, list_after, lines_from, once_text}
+use Rattle.ann_reply.specs.Reply.{accepted, word_of}
+use Rattle.ann_once.specs.Once.{update_reply, search_reply, reply_to, updated, list_after, lines_from, once_text}
 use Rattle.ann_once.proofs.Sessions.{session_base}
 use Rattle.ann_said.specs.Owned.{Placed, placed_from, by_of, past, own}
 use Rattle.ann_said.specs.Said.{Line, line, lines_text, Said}

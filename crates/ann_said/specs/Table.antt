@@ -19,7 +19,7 @@ use Rattle.ann_transcript.specs.declared.reply.MergeWord.{MergeWord}
 use Rattle.ann_transcript.specs.declared.reply.MergeWord.TheVariants as merge
 use Rattle.ann_transcript.specs.declared.reply.Reply.{Reply}
 use Rattle.ann_transcript.specs.declared.reply.Reply.TheVariants as reply
-use Rattle.ann_once.specs.Once.{accepted}
+use Rattle.ann_reply.specs.Reply.{accepted}
 use Rattle.ann_said.specs.Owned.{Placed, entries_of, reach, StandTogether, EndAt}
 
 -- where a line stands: whose it is, the client's entries of earlier lines, those of this line's command, and how long a

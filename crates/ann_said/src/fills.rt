@@ -9,7 +9,7 @@ ghost use Rattle.ann_script.specs.Order.{Fill};
 ghost use Rattle.ann_transcript.specs.declared.reply.UpdateWord.{UpdateWord};
 ghost use Rattle.ann_transcript.specs.declared.reply.UpdateWord.TheVariants.{Stopped, MemoryLogged};
 ghost use Rattle.ann_transcript.specs.declared.reply.Reply.TheVariants.{Filled, Cut};
-ghost use Rattle.ann_once.specs.Once.{word_of};
+ghost use Rattle.ann_reply.specs.Reply.{word_of};
 ghost use Rattle.ann_said.specs.Owned.{reach};
 ghost use Rattle.ann_said.specs.Table.{AreFirst};
 ghost use Rattle.ann_said.specs.Said.{line};

@@ -11,7 +11,7 @@ ghost use Rattle.ann_transcript.specs.declared.reply.UpdateWord.{UpdateWord};
 ghost use Rattle.ann_transcript.specs.declared.reply.UpdateWord.TheVariants.{Stopped, MemoryLogged};
 ghost use Rattle.ann_transcript.specs.declared.reply.SearchWord.{SearchWord};
 ghost use Rattle.ann_transcript.specs.declared.reply.Reply.TheVariants.{Update, Found, Search};
-ghost use Rattle.ann_once.specs.Once.{accepted, word_of};
+ghost use Rattle.ann_reply.specs.Reply.{accepted, word_of};
 ghost use Rattle.ann_said.specs.Owned.{own};
 ghost use Rattle.ann_said.specs.Table.{IsUnanswered};
 ghost use Rattle.ann_said.specs.Said.{Line, line, Part, SaysAll, AllSay};

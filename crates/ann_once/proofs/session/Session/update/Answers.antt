@@ -2,7 +2,7 @@ use Rattle.std.proofs.Common.{◌≡◌, ◌∙◌, None, ap, subst}
 use Rattle.ann_types.specs.Judge.{judge_all}
 use Rattle.ann_types.specs.Lists.{BasedList}
 use Rattle.ann_types.specs.declared.params.Params.{Params}
-use Rattle.ann_once.specs.Once.{accepted}
+use Rattle.ann_reply.specs.Reply.{accepted}
 use Rattle.ann_once.specs.Session.{Keeps}
 use Rattle.ann_judge.proofs.Living.{refused_at_none, behind_long}
 use Rattle.ann_once.proofs.session.Session.update.Goals as goal

@@ -1,5 +1,5 @@
 use Rattle.std.proofs.Common.{◌≡◌, take}
-use Rattle.ann_once.proofs.session.copied.Given as goal
+use Rattle.ann_reply.proofs.reply.copied.Given as goal
 
 -- the hits so far
 abbrev pub invariant-loop-hit : goal.invariant-loop-hit
