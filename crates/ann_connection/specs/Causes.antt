@@ -1,5 +1,5 @@
 -- Why a command has a reply that no list explains.
-use Rattle.std.specs.Prelude.{◌≡◌, ℕ, List, [], ◌∷◌, Result, Err}
+use Rattle.std.specs.Prelude.{◌≡◌, List, [], ◌∷◌, Result, Err}
 use Rattle.ann_fault.specs.Counts.{Rose}
 use Rattle.ann_transcript.specs.declared.reply.UpdateWord.{UpdateWord}
 use Rattle.ann_transcript.specs.declared.reply.UpdateWord.TheVariants as update

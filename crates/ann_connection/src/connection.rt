@@ -67,6 +67,10 @@ pub trait Connection: Drop {
         ensures cause { (run : Opening) (known : Known) → knows self.old run known →
             IsReplyCaused alone run.counts (counts self.old) (counts self.new) (reply.Merge result) };
 
+    /// How many components the vectors of the index's points have.
+    fn dimension(&self) -> u16
+        ensures { (run : Opening) (known : Known) → knows self.now run known → result ≡ run.index.params.d };
+
     /// The client's command of this number, from 1, has been answered.
     fn answered(&self, number: u32);
 }
