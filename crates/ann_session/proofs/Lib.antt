@@ -1,0 +1,4 @@
+pub mod Updates
+pub mod Fills
+pub mod Causes
+pub mod Lines
