@@ -26,7 +26,7 @@ go_on before between now first next =
       log = omega (arith, log, log');
       eye = omega (arith, eye, eye');
       door = omega (arith, door, door');
-      merge = λ i within. each first next i (first.merge i within);
+      merge = λ i within. each i (first.merge i within);
     }
   where
     each : (i : ℕ) → get_or before.merge i 0 ≤ get_or between.merge i 0 → get_or before.merge i 0 ≤ get_or now.merge i 0
