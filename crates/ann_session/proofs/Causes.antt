@@ -1,8 +1,7 @@
 -- Causes, as calls come one after the other.
-use Rattle.std.proofs.Common.{◌≡◌, ℕ, ◌+◌, ◌<◌, ◌≤◌, List, [], ◌∷◌, ◌++◌, refl, sym, subst, ap, arith, length, get_or, max, min, ◌-◌, ◌^◌, inl, inr}
+use Rattle.std.proofs.Common.{◌≡◌, ℕ, ◌≤◌, List, [], ◌∷◌, ◌++◌, refl, sym, subst, arith, length, get_or, inl, inr}
 use Rattle.std.proofs.lemmas.Bool.{cases_lt}
 use Rattle.std.proofs.lemmas.List.{get_or_past}
-use Rattle.ann_fault.specs.Counts.{Rose, next_count}
 use Rattle.ann_transcript.specs.declared.reply.UpdateWord.{UpdateWord}
 use Rattle.ann_transcript.specs.declared.reply.UpdateWord.TheVariants.{Dimension, Full, Present, Absent, LogFault, Stopped, Memory, MemoryLogged}
 use Rattle.ann_said.specs.Said.{Line}

@@ -1,5 +1,5 @@
 -- A fill under way, one update on, and the line that it ends with.
-use Rattle.std.proofs.Common.{◌≡◌, ℕ, Some, ◌+◌, ◌-◌, ◌*◌, ◌<◌, ◌≤◌, min, List, [], ◌∷◌, refl, sym, ap, ◌∙◌, subst, arith, take, drop, length, length-drop, inl, inr}
+use Rattle.std.proofs.Common.{◌≡◌, ℕ, Some, ◌+◌, ◌-◌, ◌*◌, ◌<◌, ◌≤◌, min, List, refl, sym, ap, ◌∙◌, subst, arith, length, length-drop, inl, inr}
 use Rattle.std.specs.Prelude.{Result, Ok, Err}
 use Rattle.std.specs.Int.{div_ceil}
 use Rattle.std.proofs.lemmas.Grind.{div_ceil_times}
@@ -22,7 +22,7 @@ use Rattle.ann_said.proofs.Prefixes.{begins_self, begins_trans, begins_length}
 use Rattle.ann_said.proofs.Adding.{said_learned, made_learned}
 use Rattle.ann_said.proofs.FillReplies.{filled_none, filled_next, filled_end, said_filled, said_cut_judged, said_cut_caused, said_cut_stopped, said_cut_logged}
 use Rattle.ann_connection.specs.Causes.{IsUpdateCaused}
-use Rattle.ann_connection.specs.Connection.{AreAccepted, AreJudged, IsUnlogged, IsUpdated, MaySay}
+use Rattle.ann_connection.specs.Connection.{IsUpdated, MaySay}
 use Rattle.ann_connection.specs.Opening.{Counts, Opening, GoOn}
 use Rattle.ann_session.specs.Served.{IsAnswered, IsBrokenOff}
 use Rattle.ann_session.proofs.Causes.{go_on_here, go_on, update_earlier}
@@ -33,6 +33,9 @@ pub batch_size : (d seed count first updates : ℕ) → length (batch_of d seed 
 batch_size d seed count first updates =
     length-take 64 (behind d seed count first updates)
     ∙ ap (min 64) (length-drop (64 * updates) (inserts d seed first count) ∙ ap (λ (n : ℕ). n - 64 * updates) (length-inserts d seed first count))
+
+pub all_left : (d seed count first : ℕ) (left : List Change) → left ≡ inserts d seed first count → length left ≡ count
+all_left d seed count first left is = ap length is ∙ length-inserts d seed first count
 
 -- before its last update a fill has inserts left, and behind it none
 pub turn_left : (count updates turns : ℕ) → turns ≡ div_ceil count 64 → updates < turns → 64 * updates < count
@@ -60,8 +63,8 @@ pub record Filling (run : Opening) (old : Known) (Knows : Known → Type 0) (bef
 learns_nothing : (known : Known) → Learns known known
 learns_nothing known = record { client = refl; entries = refl; seen = begins_self known.seen; told = begins_self known.told; stop = inr refl }
 
-pub filling_none : (run : Opening) (old : Known) (Knows : Known → Type 0) (counts : Counts) (seed count first : ℕ) (left : List Change) → Knows old → left ≡ inserts run.index.params.d seed first count → Filling run old Knows counts counts seed count first 0 left 0
-filling_none run old Knows counts seed count first left knows is = record {
+pub filling_none : (run : Opening) (old : Known) (Knows : Known → Type 0) (counts : Counts) (d seed count first : ℕ) (left : List Change) → Knows old → d ≡ run.index.params.d → left ≡ inserts d seed first count → Filling run old Knows counts counts seed count first 0 left 0
+filling_none run old Knows counts d seed count first left knows same_d is = record {
   known = old;
   learns = learns_nothing old;
   done = 0;
@@ -70,7 +73,7 @@ filling_none run old Knows counts seed count first left knows is = record {
   ends = λ h may. refl;
   told = omega arith;
   knows = (let same : old.entries ≡ old.entries + 0 = omega arith in subst (λ (n : ℕ). Knows (record old { entries = n })) same knows);
-  rest = is;
+  rest = is ∙ ap (λ (n : ℕ). inserts n seed first count) same_d;
   on = go_on_here counts;
 }
 

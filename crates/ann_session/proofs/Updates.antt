@@ -1,5 +1,5 @@
 -- What an update by itself comes to: the line that its client may say next.
-use Rattle.std.proofs.Common.{◌≡◌, ℕ, Bool, List, [], ◌∷◌, refl, length}
+use Rattle.std.proofs.Common.{ℕ, Bool, List, [], ◌∷◌, refl, length}
 use Rattle.std.specs.Prelude.{Result, Ok, Err}
 use Rattle.ann_types.specs.Judge.{Refusal}
 use Rattle.ann_types.specs.Judge as judge
@@ -12,7 +12,7 @@ use Rattle.ann_reply.specs.Reply.{accepted, word_of}
 use Rattle.ann_said.specs.Knowing.{Known, with_more, HasOwnCause}
 use Rattle.ann_said.proofs.Adding.{said_learned}
 use Rattle.ann_said.proofs.Replying.{said_accepted, said_judged, said_caused, said_stopped, said_logged}
-use Rattle.ann_connection.specs.Causes.{IsUpdateCaused, IsReplyCaused, ReplyCause}
+use Rattle.ann_connection.specs.Causes.{IsUpdateCaused, ReplyCause}
 use Rattle.ann_connection.specs.Connection.{AreAccepted, AreJudged, IsUnlogged, IsUpdated, MaySay}
 use Rattle.ann_connection.specs.Opening.{Counts, Opening}
 use Rattle.ann_session.specs.Served.{IsAnswered}

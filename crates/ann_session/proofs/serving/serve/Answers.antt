@@ -1,7 +1,7 @@
-use Rattle.std.proofs.Common.{◌≤◌, ◌+◌, arith, ap, sym, subst, map, length}
+use Rattle.std.proofs.Common.{arith, map}
 use Rattle.std.proofs.lemmas.List.{length-map}
 use Rattle.ann_script.specs.Order.{order_of}
-use Rattle.ann_session.proofs.Lines.{not_served, serving_none, serving_more, serving_broken, serving_cut, serving_all}
+use Rattle.ann_session.proofs.Lines.{not_served, serving_more, serving_broken, serving_cut, serving_all}
 use Rattle.ann_session.proofs.serving.serve.Goals as goal
 
 pub returns-in_err-reply : goal.returns-in_err-reply
@@ -38,7 +38,7 @@ loop-command-preserved g c =
       served = λ run known knows said.
           let s = l.invariant.served run known knows said in
           serving_more run known (C.knows l.connection run) (C.knows c.reply.new.connection run) C.alone (C.counts c.args.connection.now) (C.counts l.connection) (C.counts c.reply.new.connection) c.args.name.now c.args.commands.now l.command-index l.number c.args.transcript.now l.transcript c.line.new.self c.command-item.result c.in_ok-reply.reply s c.loop-command-test.true c.command-item.is counted
-              (c.in_ok-reply.ensures run s.known s.knows) c.in_ok-line.ensures.ok;
+          (c.in_ok-reply.ensures run s.known s.knows) c.in_ok-line.ensures.ok;
     }
 
 pub returns : goal.returns
