@@ -22,8 +22,8 @@ pub(crate) fn fill<C: Connection>(
 ) -> Result<Reply, AllocError>
     requires { IsWithin (Fill seed count first) }
     ensures { (run : Opening) (known : Known) → C.knows connection.old run known →
-        IsReplied run known (C.knows connection.new run) C.alone (C.counts connection.old) (C.counts connection.new)
-        (Fill seed count first) result }
+        IsReplied run known (C.knows connection.new run) C.alone
+        (C.counts connection.old) (C.counts connection.new) (Fill seed count first) result }
 {
     let mut filling = Filling::new(connection.dimension(), seed, count, first);
     let mut at = 0;

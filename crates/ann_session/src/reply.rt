@@ -19,8 +19,8 @@ fn reply_update<C: Connection>(connection: &mut C, changes: &[Change], batch: bo
     requires some { 0 < length changes.now }
     requires few { length changes.now < 65 }
     ensures { (run : Opening) (known : Known) → C.knows connection.old run known →
-        IsAnswered run known (C.knows connection.new run) C.alone (C.counts connection.old) (C.counts connection.new)
-        (Apply changes.now batch) result }
+        IsAnswered run known (C.knows connection.new run) C.alone
+        (C.counts connection.old) (C.counts connection.new) (Apply changes.now batch) result }
 {
     match connection.update(changes) {
         Ok(at) => accepted(changes, batch, at),
@@ -35,8 +35,8 @@ fn reply_search<C: Connection>(
     ask: &Ask,
 ) -> Result<Reply, AllocError>
     ensures { (run : Opening) (known : Known) → C.knows connection.old run known →
-        IsReplied run known (C.knows connection.new run) C.alone (C.counts connection.old) (C.counts connection.new)
-        (Find ask.now.k ask.now.l ask.now.vector) result }
+        IsReplied run known (C.knows connection.new run) C.alone
+        (C.counts connection.old) (C.counts connection.new) (Find ask.now.k ask.now.l ask.now.vector) result }
 {
     match connection.search(ask) {
         Ok(at) => Ok(Reply::Found {
@@ -55,8 +55,8 @@ pub(crate) fn reply<C: Connection>(
 ) -> Result<Reply, AllocError>
     requires { IsOrderOf AllVerbs (order_of command.now) }
     ensures { (run : Opening) (known : Known) → C.knows connection.old run known →
-        IsReplied run known (C.knows connection.new run) C.alone (C.counts connection.old) (C.counts connection.new)
-        (order_of command.now) result }
+        IsReplied run known (C.knows connection.new run) C.alone
+        (C.counts connection.old) (C.counts connection.new) (order_of command.now) result }
 {
     match command {
         Command::Update { changes, batch } => {

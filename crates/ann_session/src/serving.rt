@@ -30,7 +30,8 @@ pub fn serve<C: Connection>(
     requires short { length commands.now ≤ limit + 1 }
     ensures { (run : Opening) (known : Known) → C.knows connection.old run known →
         IsSaidSoFar run.index run.list known [] →
-        IsServed run known (C.knows connection.new run) C.alone (C.counts connection.old) (C.counts connection.new)
+        IsServed run known (C.knows connection.new run) C.alone
+        (C.counts connection.old) (C.counts connection.new)
         name.now (map order_of commands.now) transcript.old transcript.new result }
 {
     let mut number = 1u32;
