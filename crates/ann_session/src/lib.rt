@@ -8,5 +8,7 @@
 mod fill;
 mod reply;
 mod serving;
+#[cfg(test)]
+mod tests;
 
 pub use serving::serve;
