@@ -4,7 +4,7 @@ use Rattle.std.specs.Prelude.{flat_map}
 use Rattle.ann_types.specs.Answer.{hits, hit, found}
 use Rattle.ann_types.specs.Codes.{Book}
 use Rattle.ann_types.specs.Fold.{State, all_points, fold_of}
-use Rattle.ann_types.specs.Graph.{Point, Graph, empty_graph, far_from, tag_of}
+use Rattle.ann_types.specs.Graph.{Point, Graph, empty_graph, far_from}
 use Rattle.ann_types.specs.Index.{Index}
 use Rattle.ann_types.specs.Lists.{BasedList, length_of}
 use Rattle.ann_types.specs.Merge.{without}
@@ -14,7 +14,7 @@ use Rattle.ann_types.specs.declared.hit.Hit.{Hit}
 use Rattle.ann_types.specs.declared.params.Params.{Params}
 use Rattle.ann_transcript.specs.declared.reply.Reply.TheVariants.{Found, Search}
 use Rattle.ann_transcript.specs.declared.reply.SearchWord.TheVariants.{Dimension}
-use Rattle.ann_beam.specs.Ranking.{rank, hit_of}
+use Rattle.ann_beam.specs.Ranking.{hit_of}
 use Rattle.ann_view.specs.Search.{near_memory, near_result}
 use Rattle.ann_view.specs.View.{index_of}
 use Rattle.ann_once.specs.Once.{once_index, search_reply}

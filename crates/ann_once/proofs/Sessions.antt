@@ -1,9 +1,8 @@
 -- What a session keeps, one change on.
-use Rattle.std.proofs.Common.{◌≡◌, ◌≤◌, ◌<◌, ℕ, Bool, true, false, cond, not, eqb, ltb, ◌&&◌, Option, Some, None, is_none, is_some, List, [], ◌∷◌, refl, sym, ap, subst, ◌∙◌, arith, length, eqb-true, ltb-true}
+use Rattle.std.proofs.Common.{◌≡◌, ◌≤◌, ◌<◌, ℕ, Bool, true, false, not, eqb, ltb, ◌&&◌, Option, Some, None, is_none, is_some, List, [], ◌∷◌, refl, sym, ap, subst, ◌∙◌, arith, length, eqb-true, ltb-true}
 use Rattle.std.specs.FinMap.{get, len}
 use Rattle.std.proofs.lemmas.Bool.{and_from, and_parts}
-use Rattle.ann_types.specs.Fold.{State, frozen, grown, step, fold_of, deleted}
-use Rattle.ann_types.specs.Graph.{Graph}
+use Rattle.ann_types.specs.Fold.{State, step, fold_of, deleted}
 use Rattle.ann_types.specs.Index.{Index}
 use Rattle.ann_types.specs.Judge.{entry_of, judge}
 use Rattle.ann_types.specs.Legal.{pid_end, may_follow, is_legal}
